@@ -4,6 +4,7 @@ use mathlib.Core.Bool.{cond}
 use Prim.Native.Nat.{ℕ, suc, _+_}
 use lib.IntN.{ℤ}
 use lib.Dec.{ltb}
+use lib.ListN.{length}
 use Rattle.std.specs.declared.option.Option.{Option}
 use Rattle.std.specs.declared.option.Option.the-variants.{Some, None}
 use Rattle.syntax.specs.declared.Event.{Event}
@@ -48,8 +49,7 @@ sequences-so-far (draft c cs) = sequences c + sequences-around cs
 
 -- how many brackets are open
 abbrev pub depth : Draft → ℕ
-depth (draft c []) = 0
-depth (draft c (b ∷ cs)) = suc (depth (draft b cs))
+depth (draft c cs) = length cs
 
 -- a draft with one command more, unless n commands are already as many as there may be
 abbrev pub admit : ℕ → Draft → Option Draft
