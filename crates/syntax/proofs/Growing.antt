@@ -4,6 +4,7 @@ use mathlib.Core.List.{List, [], _∷_}
 use Prim.Native.Nat.{ℕ, suc, _+_, _<_, _≤_}
 use native.Mathlib.Omega.{arith}
 use lib.Dec.{ltb}
+use lib.ListN.{length}
 use Rattle.std.proofs.shelf.Tests.{cond-true, lt-ltb}
 use Rattle.std.specs.declared.option.Option.{Option}
 use Rattle.std.specs.declared.option.Option.the-variants.{Some, None}
@@ -11,7 +12,7 @@ use Rattle.syntax.specs.declared.Event.{Event}
 use Rattle.syntax.specs.declared.Event.the-variants.{Numeral, Name, Open, Close}
 use Rattle.syntax.specs.Bounds.{most-commands}
 use Rattle.syntax.specs.Code.{Code, end, numeral, name, sequence, append, commands, sequences}
-use Rattle.syntax.specs.Events.{onto, events, Draft, draft, blank, commands-around, commands-so-far, admit, feed, feeds, openings}
+use Rattle.syntax.specs.Events.{onto, events, Draft, draft, blank, commands-around, commands-so-far, sequences-around, sequences-so-far, depth, admit, feed, feeds, openings}
 
 pub append-assoc : (a b c : Code) → append (append a b) c ≡ append a (append b c)
 append-assoc end b c = refl
@@ -85,3 +86,19 @@ openings-onto end es = omega arith
 openings-onto (numeral k q) es = openings-onto q es
 openings-onto (name o q) es = openings-onto q es
 openings-onto (sequence b q) es = omega (arith, openings-onto b (Close ∷ onto q es), openings-onto q es)
+
+-- a draft has at most as many sequences as commands
+sequences-around-le : (cs : List Code) → sequences-around cs ≤ commands-around cs
+sequences-around-le [] = omega arith
+sequences-around-le (c ∷ cs) = omega (arith, sequences-le c, sequences-around-le cs)
+
+pub sequences-so-far-le : (d : Draft) → sequences-so-far d ≤ commands-so-far d
+sequences-so-far-le (draft c cs) = omega (arith, sequences-le c, sequences-around-le cs)
+
+-- each open bracket is a command
+pub depth-le : (d : Draft) → depth d ≤ commands-so-far d
+depth-le (draft c cs) = omega (arith, around-le cs)
+  where
+    around-le : (cs : List Code) → length cs ≤ commands-around cs
+    around-le [] = omega arith
+    around-le (c ∷ cs) = omega (arith, around-le cs)

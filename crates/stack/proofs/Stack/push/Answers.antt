@@ -1,0 +1,22 @@
+use mathlib.Core.Path.{refl, sym, ap}
+use native.Mathlib.Omega.{arith}
+use lib.ListN.{length-set, set}
+use Rattle.stack.proofs.Laws.{items-push, length-held}
+use Rattle.stack.proofs.Stack.push.Needs as need
+
+pub returns-then-self : need.returns-then-self
+returns-then-self g c =
+    let l = length-held (c .args .self .now) in
+    let t = c .if-self .taken in
+    record {
+      size = length-set _ _ _;
+      same = refl;
+      fits = grind arith;
+      items = items-push (c .args .self .now .places .now) (c .args .self .now .len) (c .args .x) (c .if-self .taken);
+      over = sym (ap (λ n. set (c .args .self .now .places .now) n (c .args .x)) l);
+    }
+
+pub returns-else-self : need.returns-else-self
+returns-else-self g c =
+    let l = length-held (c .args .self .now) in
+    record { size = refl; same = refl; fits = grind arith; items = refl; over = refl }
