@@ -1,7 +1,9 @@
 -- The number and the word of every refusal and of every fault: the only place where they are fixed.
-use mathlib.Core.List.{List}
+use mathlib.Core.List.{List, _∷_, _++_}
+use mathlib.Core.Path.{_≡_}
 use Prim.Native.Nat.{ℕ}
 use lib.Chars.{codes}
+use Rattle.std.specs.Written.{decimal}
 use Rattle.codes.specs.declared.Refusal.{Refusal}
 use Rattle.codes.specs.declared.Refusal.the-variants.{Long, Word, Range, Bracket, Head, Crowd, Image, Book, Full, Link, Space, Bare, Party, Rest}
 use Rattle.codes.specs.declared.Fault.{Fault}
@@ -55,3 +57,20 @@ fault-number SequenceOnTop = 18
 -- every fault has one word
 abbrev pub fault-word : Fault → List ℕ
 fault-word f = codes "fault"
+
+-- what is shown of a refusal: its number, a blank and its word
+abbrev pub refusal-text : Refusal → List ℕ
+refusal-text r = decimal (refusal-number r) ++ (32 ∷ refusal-word r)
+
+-- what is shown of a fault: its number, a blank and its word
+abbrev pub fault-text : Fault → List ℕ
+fault-text f = decimal (fault-number f) ++ (32 ∷ fault-word f)
+
+-- a number tells which refusal or which fault it stands for
+pub record Codes-apart : Type 0 where
+  -- two refusals with one number are the same refusal
+  pub refusals : (r s : Refusal) → refusal-number r ≡ refusal-number s → r ≡ s
+  -- two faults with one number are the same fault
+  pub faults : (f g : Fault) → fault-number f ≡ fault-number g → f ≡ g
+  -- no refusal has a fault's number
+  pub between : (r : Refusal) (f : Fault) → refusal-number r ≡ fault-number f → ⊥

@@ -1,4 +1,12 @@
 // The closed lists of refusals and faults.
+ghost use Rattle.codes.specs.Codes.{Codes-apart};
+pub use faults::FaultDisplay;
+pub use refusals::RefusalDisplay;
+
+mod faults;
+mod refusals;
+#[cfg(test)]
+mod tests;
 
 // Why a call did nothing. Each has a number and a word, which people and formats show.
 #[derive(Clone, Copy, PartialEq, Eq, Debug)]
@@ -53,3 +61,8 @@ pub enum Fault {
     // a sequence is on top after the last command
     SequenceOnTop,
 }
+
+// No two refusals, no two faults, and no refusal and a fault have one number.
+pub fn numbers_tell_codes_apart()
+    ensures { λ _. ⌜ Codes-apart ⌝ }
+{}

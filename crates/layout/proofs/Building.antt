@@ -66,11 +66,12 @@ frames-of ps (o ∷ os) f l h =
     let b = and-parts (eqb o (begin os + commands (inner ps o os))) (lies (take o ps) (begin os) (inner ps o os) o) (a .0) in
     let c = and-parts (opened-at ps o) (framed ps os) (a .1) in
     let d = and-parts (holds (at ps o .command) 0) (eqb (at ps o .next) 0) (c .0) in
-    let e : o ≡ begin os + commands (inner ps o os) = eqb-true _ _ (b .0) in
-    ( e
-    , laid-in ps o (begin os) o f (begin-pos os) (omega arith) e (inr (omega arith)) (b .1)
-    , opened-so (at ps o) (d .0) (d .1)
-    , frames-of ps os f (omega arith) (c .1) )
+    let e : o ≡ begin os + commands (inner ps o os) = eqb-true _ _ (b .0) in (
+      e,
+      laid-in ps o (begin os) o f (begin-pos os) (omega arith) e (inr (omega arith)) (b .1),
+      opened-so (at ps o) (d .0) (d .1),
+      frames-of ps os f (omega arith) (c .1),
+    )
 
 pub fits-of : (ps : List Place) (used last count : ℕ) (os : List ℕ) → holds-draft ps used last count os ≡ true → Fits ps used last count os (inner ps used os) (outer ps os)
 unfolding holds-draft
@@ -84,16 +85,17 @@ fits-of ps used last count os h =
     let long : length ps ≡ table-places = eqb-true _ _ (b .0) in
     let room : used ≤ table-places = leb-true _ _ (c .1) in
     let so : used ≡ begin os + commands (inner ps used os) = eqb-true _ _ (e .0) in
-    record
-      { long = long
-      ; room = room
-      ; used-so = so
-      ; tail = eqb-true _ _ (e .1)
-      ; counted = eqb-true _ _ (e .2)
-      ; laid = laid-in ps used (begin os) 0 (b .1) (begin-pos os) (omega arith) so (inl refl) (g .0)
-      ; frames = frames-of ps os (b .1) (omega arith) (g .1)
-      ; forth = b .1
-      ; numbers = c .0 }
+    record {
+      long = long;
+      room = room;
+      used-so = so;
+      tail = eqb-true _ _ (e .1);
+      counted = eqb-true _ _ (e .2);
+      laid = laid-in ps used (begin os) 0 (b .1) (begin-pos os) (omega arith) so (inl refl) (g .0);
+      frames = frames-of ps os (b .1) (omega arith) (g .1);
+      forth = b .1;
+      numbers = c .0;
+    }
 
 -- and back
 
@@ -115,11 +117,11 @@ framed-from ps (o ∷ os) (c ∷ cs) l f =
     let e : o ≡ begin os + commands c = f .0 in
     let i : inner ps o os ≡ c = begun-in ps o (begin os) c o (begin-pos os) e (omega arith) (inr (omega arith)) (f .1) in
     and-from _ (opened-at ps o && framed ps os)
-      (and-from (eqb o (begin os + commands (inner ps o os))) _ (eq-eqb _ _ (e ∙ ap (λ (x : Code). begin os + commands x) (sym i)))
-        (subst (λ (x : Code). lies (take o ps) (begin os) x o ≡ true) (sym i) (lies-in ps o (begin os) c o e (omega arith) (f .1))))
-      (and-from (opened-at ps o) (framed ps os)
-        (and-from (holds (at ps o .command) 0) (eqb (at ps o .next) 0) (ap (λ (p : Place). holds (p .command) 0) (f .2)) (ap (λ (p : Place). eqb (p .next) 0) (f .2)))
-        (framed-from ps os cs (omega arith) (f .3)))
+    (and-from (eqb o (begin os + commands (inner ps o os))) _ (eq-eqb _ _ (e ∙ ap (λ (x : Code). begin os + commands x) (sym i)))
+    (subst (λ (x : Code). lies (take o ps) (begin os) x o ≡ true) (sym i) (lies-in ps o (begin os) c o e (omega arith) (f .1))))
+    (and-from (opened-at ps o) (framed ps os)
+    (and-from (holds (at ps o .command) 0) (eqb (at ps o .next) 0) (ap (λ (p : Place). holds (p .command) 0) (f .2)) (ap (λ (p : Place). eqb (p .next) 0) (f .2)))
+    (framed-from ps os cs (omega arith) (f .3)))
 
 -- a table whose places are known to hold a draft passes the test, and that draft is the one it spells
 pub record Held (ps : List Place) (used last count : ℕ) (os : List ℕ) (d : Draft) : Type 0 where
@@ -135,19 +137,20 @@ held-from ps used last count os c cs f =
     let i : inner ps used os ≡ c = begun-in ps used (begin os) c 0 (begin-pos os) e (omega arith) (inl refl) (f .laid) in
     let o : outer ps os ≡ cs = outer-told ps os cs (omega arith) (f .frames) in
     let d : drafted ps used os ≡ draft c cs = ap (λ (x : Code). draft x (outer ps os)) i ∙ ap (draft c) o in
-    record
-      { kept =
+    record {
+      kept =
           and-from (eqb (length ps) table-places && (forward 0 ps && (smalls ps && leb used table-places))) _
-            (from-three _ (forward 0 ps) (smalls ps && leb used table-places) (eq-eqb _ _ l) (f .forth) (and-from (smalls ps) _ (f .numbers) (le-leb _ _ r)))
-            (and-from (eqb used (begin os + commands (inner ps used os)) && (eqb last (last-place 0 (begin os) (inner ps used os)) && eqb count (sequences-so-far (drafted ps used os)))) _
-              (from-three _ _ _
-                (eq-eqb _ _ (e ∙ ap (λ (x : Code). begin os + commands x) (sym i)))
-                (eq-eqb _ _ (f .tail ∙ ap (last-place 0 (begin os)) (sym i)))
-                (eq-eqb _ _ (f .counted ∙ ap sequences-so-far (sym d))))
-              (and-from _ (framed ps os)
-                (subst (λ (x : Code). lies (take used ps) (begin os) x 0 ≡ true) (sym i) (lies-in ps used (begin os) c 0 e (omega arith) (f .laid)))
-                (framed-from ps os cs (omega arith) (f .frames))))
-      ; told = d }
+          (from-three _ (forward 0 ps) (smalls ps && leb used table-places) (eq-eqb _ _ l) (f .forth) (and-from (smalls ps) _ (f .numbers) (le-leb _ _ r)))
+          (and-from (eqb used (begin os + commands (inner ps used os)) && (eqb last (last-place 0 (begin os) (inner ps used os)) && eqb count (sequences-so-far (drafted ps used os)))) _
+          (from-three _ _ _
+          (eq-eqb _ _ (e ∙ ap (λ (x : Code). begin os + commands x) (sym i)))
+          (eq-eqb _ _ (f .tail ∙ ap (last-place 0 (begin os)) (sym i)))
+          (eq-eqb _ _ (f .counted ∙ ap sequences-so-far (sym d))))
+          (and-from _ (framed ps os)
+          (subst (λ (x : Code). lies (take used ps) (begin os) x 0 ≡ true) (sym i) (lies-in ps used (begin os) c 0 e (omega arith) (f .laid)))
+          (framed-from ps os cs (omega arith) (f .frames))));
+      told = d;
+    }
 
 framed-agree : (ps qs : List Place) (os : List ℕ) (cs : List Code) → ((i : ℕ) → 0 < i → i < begin os → at qs i ≡ at ps i) → Framed ps os cs → Framed qs os cs
 framed-agree ps qs [] [] a f = tt
@@ -155,11 +158,12 @@ framed-agree ps qs [] (c ∷ cs) a f = f
 framed-agree ps qs (o ∷ os) [] a f = f
 framed-agree ps qs (o ∷ os) (c ∷ cs) a f =
     let e : o ≡ begin os + commands c = f .0 in
-    let b = begin-pos os in
-    ( e
-    , agree ps qs (begin os) c o (λ i x y. a i (omega arith) (omega arith)) (f .1)
-    , a o (omega arith) (omega arith) ∙ f .2
-    , framed-agree ps qs os cs (λ i x y. a i (omega arith) (omega arith)) (f .3) )
+    let b = begin-pos os in (
+      e,
+      agree ps qs (begin os) c o (λ i x y. a i (omega arith) (omega arith)) (f .1),
+      a o (omega arith) (omega arith) ∙ f .2,
+      framed-agree ps qs os cs (λ i x y. a i (omega arith) (omega arith)) (f .3),
+    )
 
 -- one more place, linked from the last
 
@@ -179,58 +183,61 @@ put ps used last count os c cs d f l a sm =
     let so = f .used-so in
     let b = begin-pos os in
     let out : (last ≡ 0) ⊎ ((begin os ≤ last) × (last < used)) =
-        ⊎-elim (λ e. inl (f .tail ∙ e)) (λ e. let t = f .tail in inr (omega arith, omega arith)) (last-out 0 (begin os) c b) in
+    ⊎-elim (λ e. inl (f .tail ∙ e)) (λ e. let t = f .tail in inr (omega arith, omega arith)) (last-out 0 (begin os) c b) in
     let less : last < used = ⊎-elim (λ e. omega arith) (λ e. omega arith) out in
     let n : length (relink ps last used) ≡ table-places = length-set ps last (place (at ps last .command) used) ∙ long in
     let laid : Laid (relink ps last used) (begin os) c used =
-        subst (λ (m : ℕ). Laid (relink ps m used) (begin os) c used) (sym (f .tail)) (retarget ps 0 (begin os) c used b (omega arith) (f .laid)) in
+    subst (λ (m : ℕ). Laid (relink ps m used) (begin os) c used) (sym (f .tail)) (retarget ps 0 (begin os) c used b (omega arith) (f .laid)) in
     let here = forward-at 0 ps last last (omega arith) (f .forth) (omega arith) in
-    record
-      { long = length-set (relink ps last used) used (place d 0) ∙ n
-      ; less = l
-      ; used-so = so
-      ; laid = agree (relink ps last used) (placed ps last used d) (begin os) c used (λ i x y. getD-set-other (relink ps last used) used i (place d 0) vacant (λ z. omega arith)) laid
-      ; new = getD-set-same (relink ps last used) used (place d 0) vacant (omega arith)
-      ; frames = framed-agree ps (placed ps last used d) os cs
+    record {
+      long = length-set (relink ps last used) used (place d 0) ∙ n;
+      less = l;
+      used-so = so;
+      laid = agree (relink ps last used) (placed ps last used d) (begin os) c used (λ i x y. getD-set-other (relink ps last used) used i (place d 0) vacant (λ z. omega arith)) laid;
+      new = getD-set-same (relink ps last used) used (place d 0) vacant (omega arith);
+      frames = framed-agree ps (placed ps last used d) os cs
           (λ i x y. getD-set-other (relink ps last used) used i (place d 0) vacant (λ z. omega arith)
-            ∙ other ps last i used (λ z. ⊎-elim (λ e. omega arith) (λ e. omega arith) out))
-          (f .frames)
-      ; forth = forward-set 0 (relink ps last used) used used (place d 0) (omega arith)
+          ∙ other ps last i used (λ z. ⊎-elim (λ e. omega arith) (λ e. omega arith) out))
+          (f .frames);
+      forth = forward-set 0 (relink ps last used) used used (place d 0) (omega arith)
           (forward-set 0 ps last last (place (at ps last .command) used) (omega arith) (f .forth) (here .0) (on-lt last used less))
-          a refl
-      ; numbers = smalls-set (relink ps last used) used (place d 0) (smalls-set ps last (place (at ps last .command) used) (f .numbers) (small-at ps last (f .numbers))) sm }
+          a refl;
+      numbers = smalls-set (relink ps last used) used (place d 0) (smalls-set ps last (place (at ps last .command) used) (f .numbers) (small-at ps last (f .numbers))) sm;
+    }
 
 -- a numeral or a name
 pub push : (qs : List Place) (used count : ℕ) (os : List ℕ) (c : Code) (cs : List Code) (d : Command) (x : Code) → Put qs used os c cs d → count ≡ sequences-so-far (draft c cs) → sequences x ≡ 0 → commands x ≡ 1 → link used x 0 ≡ used → ((g : ℕ) → last-place g used x ≡ used) → Laid qs used x 0 → Fits qs (used + 1) used count os (append c x) cs
 push qs used count os c cs d x p n none one l t h =
     let e = p .used-so in
     let m = p .less in
-    record
-      { long = p .long
-      ; room = omega arith
-      ; used-so = omega (arith, commands-append c x)
-      ; counted = omega (arith, sequences-append c x)
-      ; tail = sym (last-push 0 (begin os) used c x e t)
-      ; laid = join qs (begin os) used c x 0 e l (p .laid) h
-      ; frames = p .frames
-      ; forth = p .forth
-      ; numbers = p .numbers }
+    record {
+      long = p .long;
+      room = omega arith;
+      used-so = omega (arith, commands-append c x);
+      counted = omega (arith, sequences-append c x);
+      tail = sym (last-push 0 (begin os) used c x e t);
+      laid = join qs (begin os) used c x 0 e l (p .laid) h;
+      frames = p .frames;
+      forth = p .forth;
+      numbers = p .numbers;
+    }
 
 -- a bracket that opens
 pub opened : (qs : List Place) (used count : ℕ) (os : List ℕ) (c : Code) (cs : List Code) → Put qs used os c cs (Sequence 0) → count ≡ sequences-so-far (draft c cs) → Fits qs (used + 1) 0 (count + 1) (used ∷ os) end (c ∷ cs)
 opened qs used count os c cs p n =
     let e = p .used-so in
     let m = p .less in
-    record
-      { long = p .long
-      ; room = omega arith
-      ; used-so = omega arith
-      ; counted = omega arith
-      ; tail = refl
-      ; laid = tt
-      ; frames = (p .used-so, p .laid, p .new, p .frames)
-      ; forth = p .forth
-      ; numbers = p .numbers }
+    record {
+      long = p .long;
+      room = omega arith;
+      used-so = omega arith;
+      counted = omega arith;
+      tail = refl;
+      laid = tt;
+      frames = (p .used-so, p .laid, p .new, p .frames);
+      forth = p .forth;
+      numbers = p .numbers;
+    }
 
 -- one that closes
 pub shut : (ps : List Place) (used last count o : ℕ) (os : List ℕ) (c b : Code) (cs : List Code) (first : ℕ) → Fits ps used last count (o ∷ os) c (b ∷ cs) → first ≡ link (suc o) c 0 → Fits (set ps o (place (Sequence first) 0)) used o count os (append b (sequence c end)) cs
@@ -244,21 +251,23 @@ shut ps used last count o os c b cs first f e =
     let qs = set ps o (place (Sequence first) 0) in
     let away : (i : ℕ) → i ≢ o → at (set ps o (place (Sequence first) 0)) i ≡ at ps i = λ i n. getD-set-other ps o i (place (Sequence first) 0) vacant n in
     let here : at (set ps o (place (Sequence first) 0)) o ≡ place (Sequence first) 0 = getD-set-same ps o (place (Sequence first) 0) vacant (omega arith) in
-    record
-      { long = length-set ps o (place (Sequence first) 0) ∙ long
-      ; room = room
-      ; used-so = omega (arith, commands-append b (sequence c end))
-      ; counted = omega (arith, sequences-append b (sequence c end))
-      ; tail = sym (last-push 0 (begin os) o b (sequence c end) at-o (λ g. refl))
-      ; laid = join (set ps o (place (Sequence first) 0)) (begin os) o b (sequence c end) 0 at-o refl
-          (agree ps (set ps o (place (Sequence first) 0)) (begin os) b o (λ i x y. away i (λ z. omega arith)) (f .frames .1))
-          ( here ∙ ap (λ (n : ℕ). place (Sequence n) 0) e
-          , agree ps (set ps o (place (Sequence first) 0)) (suc o) c 0 (λ i x y. away i (λ z. omega arith)) (f .laid)
-          , tt )
-      ; frames = framed-agree ps (set ps o (place (Sequence first) 0)) os cs (λ i x y. away i (λ z. omega arith)) (f .frames .3)
-      ; forth = forward-set 0 ps o o (place (Sequence first) 0) (omega arith) (f .forth)
-          (subst (λ (n : ℕ). on o n ≡ true) (sym e) (on-link o (suc o) c 0 (omega arith) (inl refl))) refl
-      ; numbers = smalls-set ps o (place (Sequence first) 0) (f .numbers) refl }
+    record {
+      long = length-set ps o (place (Sequence first) 0) ∙ long;
+      room = room;
+      used-so = omega (arith, commands-append b (sequence c end));
+      counted = omega (arith, sequences-append b (sequence c end));
+      tail = sym (last-push 0 (begin os) o b (sequence c end) at-o (λ g. refl));
+      laid = join (set ps o (place (Sequence first) 0)) (begin os) o b (sequence c end) 0 at-o refl
+          (agree ps (set ps o (place (Sequence first) 0)) (begin os) b o (λ i x y. away i (λ z. omega arith)) (f .frames .1)) (
+            here ∙ ap (λ (n : ℕ). place (Sequence n) 0) e,
+            agree ps (set ps o (place (Sequence first) 0)) (suc o) c 0 (λ i x y. away i (λ z. omega arith)) (f .laid),
+            tt,
+          );
+      frames = framed-agree ps (set ps o (place (Sequence first) 0)) os cs (λ i x y. away i (λ z. omega arith)) (f .frames .3);
+      forth = forward-set 0 ps o o (place (Sequence first) 0) (omega arith) (f .forth)
+          (subst (λ (n : ℕ). on o n ≡ true) (sym e) (on-link o (suc o) c 0 (omega arith) (inl refl))) refl;
+      numbers = smalls-set ps o (place (Sequence first) 0) (f .numbers) refl;
+    }
 
 -- how many commands the draft has
 around : (ps : List Place) (os : List ℕ) (cs : List Code) → Framed ps os cs → begin os ≡ suc (commands-around cs)
@@ -333,16 +342,16 @@ pub whole-from : (t : Table) (c : Code) → tree t ≡ c → length (t .places) 
 unfolding whole counts in-order
 whole-from t c e long forth numbers n s few k head laid =
     and-from _ _
-      (from-three (eqb (length (t .places)) table-places) (forward 0 (t .places)) (smalls (t .places)) (eq-eqb _ _ long) forth numbers)
-      (and-from _ _
-        (and-from (eqb (t .commands) (commands (tree t))) _ (eq-eqb _ _ (n ∙ ap commands (sym e)))
-          (from-three (eqb (t .sequences) (sequences (tree t))) (leb (commands (tree t)) most-commands) (leb (t .parameters) most-parameters)
-            (eq-eqb _ _ (s ∙ ap sequences (sym e)))
-            (subst (λ (x : Code). leb (commands x) most-commands ≡ true) (sym e) (le-leb _ _ few))
-            (le-leb _ _ k)))
-        (and-from (eqb (at (t .places) 0 .next) (link 1 (tree t) 0)) (lies (t .places) 1 (tree t) 0)
-          (eq-eqb _ _ (head ∙ ap (λ (x : Code). link 1 x 0) (sym e)))
-          (subst (λ (x : Code). lies (t .places) 1 x 0 ≡ true) (sym e) (lies-from (t .places) 1 c 0 laid))))
+    (from-three (eqb (length (t .places)) table-places) (forward 0 (t .places)) (smalls (t .places)) (eq-eqb _ _ long) forth numbers)
+    (and-from _ _
+    (and-from (eqb (t .commands) (commands (tree t))) _ (eq-eqb _ _ (n ∙ ap commands (sym e)))
+    (from-three (eqb (t .sequences) (sequences (tree t))) (leb (commands (tree t)) most-commands) (leb (t .parameters) most-parameters)
+    (eq-eqb _ _ (s ∙ ap sequences (sym e)))
+    (subst (λ (x : Code). leb (commands x) most-commands ≡ true) (sym e) (le-leb _ _ few))
+    (le-leb _ _ k)))
+    (and-from (eqb (at (t .places) 0 .next) (link 1 (tree t) 0)) (lies (t .places) 1 (tree t) 0)
+    (eq-eqb _ _ (head ∙ ap (λ (x : Code). link 1 x 0) (sym e)))
+    (subst (λ (x : Code). lies (t .places) 1 x 0 ≡ true) (sym e) (lies-from (t .places) 1 c 0 laid))))
 
 pub tree-from : (t : Table) (c : Code) → length (t .places) ≡ table-places → commands c ≤ most-commands → at (t .places) 0 .next ≡ link 1 c 0 → Laid (t .places) 1 c 0 → tree t ≡ c
 unfolding tree
@@ -359,19 +368,20 @@ finish ps used last count first t h a b same n s m =
     let many = f .counted in
     let e : first ≡ link 1 (inner ps used []) 0 = first-is 1 used first (inner ps used []) so a b in
     let head : at (t .places) 0 .next ≡ link 1 (inner ps used []) 0 =
-        ap (λ (qs : List Place). at qs 0 .next) same ∙ ap (λ (p : Place). p .next) (getD-set-same ps 0 (place (Numeral (pos 0)) first) vacant (omega arith)) ∙ e in
+    ap (λ (qs : List Place). at qs 0 .next) same ∙ ap (λ (p : Place). p .next) (getD-set-same ps 0 (place (Numeral (pos 0)) first) vacant (omega arith)) ∙ e in
     let wide : length (t .places) ≡ table-places = ap length same ∙ length-set ps 0 (place (Numeral (pos 0)) first) ∙ long in
     let laid : Laid (t .places) 1 (inner ps used []) 0 =
-        subst (λ (qs : List Place). Laid qs 1 (inner ps used []) 0) (sym same)
-          (agree ps (set ps 0 (place (Numeral (pos 0)) first)) 1 (inner ps used []) 0 (λ i x y. getD-set-other ps 0 i (place (Numeral (pos 0)) first) vacant (λ z. omega arith)) (f .laid)) in
+    subst (λ (qs : List Place). Laid qs 1 (inner ps used []) 0) (sym same)
+    (agree ps (set ps 0 (place (Numeral (pos 0)) first)) 1 (inner ps used []) 0 (λ i x y. getD-set-other ps 0 i (place (Numeral (pos 0)) first) vacant (λ z. omega arith)) (f .laid)) in
     let few : commands (inner ps used []) ≤ most-commands = omega arith in
-    let tr = tree-from t (inner ps used []) wide few head laid in
-    ( tr
-    , whole-from t (inner ps used []) tr wide
-        (subst (λ (qs : List Place). forward 0 qs ≡ true) (sym same)
+    let tr = tree-from t (inner ps used []) wide few head laid in (
+      tr,
+      whole-from t (inner ps used []) tr wide
+          (subst (λ (qs : List Place). forward 0 qs ≡ true) (sym same)
           (forward-set 0 ps 0 0 (place (Numeral (pos 0)) first) (omega arith) (f .forth) refl (subst (λ (v : ℕ). on 0 v ≡ true) (sym e) (on-link 0 1 (inner ps used []) 0 (omega arith) (inl refl)))))
-        (subst (λ (qs : List Place). smalls qs ≡ true) (sym same) (smalls-set ps 0 (place (Numeral (pos 0)) first) (f .numbers) refl))
-        (omega arith) (omega arith) few m head laid )
+          (subst (λ (qs : List Place). smalls qs ≡ true) (sym same) (smalls-set ps 0 (place (Numeral (pos 0)) first) (f .numbers) refl))
+          (omega arith) (omega arith) few m head laid,
+    )
 
 -- an unused table
 

@@ -93,8 +93,8 @@ ranged-walk b [] v s = tt
 ranged-walk b (p ∷ ps) v s =
     let r = and-parts (small (p .command)) (smalls ps) s in
     cond-both (eqb v b) (place-then b (walk end place-then (suc b) ps) p) (walk end place-then (suc b) ps v) Ranged
-      (λ e. ranged-then (walk end place-then (suc b) ps) (p .command) _ (r .0) (λ w. ranged-walk (suc b) ps w (r .1)) (ranged-walk (suc b) ps (p .next) (r .1)))
-      (λ e. ranged-walk (suc b) ps v (r .1))
+    (λ e. ranged-then (walk end place-then (suc b) ps) (p .command) _ (r .0) (λ w. ranged-walk (suc b) ps w (r .1)) (ranged-walk (suc b) ps (p .next) (r .1)))
+    (λ e. ranged-walk (suc b) ps v (r .1))
 
 -- a chain has numbers of the language for numerals, where the places have
 pub ranged-chain : (ps : List Place) (v : ℕ) → smalls ps ≡ true → Ranged (chain ps v)

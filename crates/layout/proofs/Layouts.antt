@@ -31,10 +31,11 @@ pub agree : (ps qs : List Place) (u : ℕ) (c : Code) (t : ℕ) → ((i : ℕ) �
 agree ps qs u end t f h = tt
 agree ps qs u (numeral k q) t f h = (f u (omega arith) (omega arith) ∙ h .0, agree ps qs (suc u) q t (λ i a b. f i (omega arith) (omega arith)) (h .1))
 agree ps qs u (name o q) t f h = (f u (omega arith) (omega arith) ∙ h .0, agree ps qs (suc u) q t (λ i a b. f i (omega arith) (omega arith)) (h .1))
-agree ps qs u (sequence b q) t f h =
-    ( f u (omega arith) (omega arith) ∙ h .0
-    , agree ps qs (suc u) b 0 (λ i l m. f i (omega arith) (omega arith)) (h .1)
-    , agree ps qs (suc (u + commands b)) q t (λ i l m. f i (omega arith) (omega arith)) (h .2) )
+agree ps qs u (sequence b q) t f h = (
+  f u (omega arith) (omega arith) ∙ h .0,
+  agree ps qs (suc u) b 0 (λ i l m. f i (omega arith) (omega arith)) (h .1),
+  agree ps qs (suc (u + commands b)) q t (λ i l m. f i (omega arith) (omega arith)) (h .2),
+)
 
 -- two layouts, one after the other
 
@@ -48,10 +49,11 @@ pub join : (ps : List Place) (u v : ℕ) (c x : Code) (t : ℕ) → v ≡ u + co
 join ps u v end x t e l h g = let w : v ≡ u = omega arith in subst (λ (n : ℕ). Laid ps n x t) w g
 join ps u v (numeral k q) x t e l h g = (h .0 ∙ ap (place (Numeral k)) (link-join (suc u) v q x t (omega arith) l), join ps (suc u) v q x t (omega arith) l (h .1) g)
 join ps u v (name o q) x t e l h g = (h .0 ∙ ap (place (Name o)) (link-join (suc u) v q x t (omega arith) l), join ps (suc u) v q x t (omega arith) l (h .1) g)
-join ps u v (sequence b q) x t e l h g =
-    ( h .0 ∙ ap (place (Sequence (link (suc u) b 0))) (link-join (suc (u + commands b)) v q x t (omega arith) l)
-    , h .1
-    , join ps (suc (u + commands b)) v q x t (omega arith) l (h .2) g )
+join ps u v (sequence b q) x t e l h g = (
+  h .0 ∙ ap (place (Sequence (link (suc u) b 0))) (link-join (suc (u + commands b)) v q x t (omega arith) l),
+  h .1,
+  join ps (suc (u + commands b)) v q x t (omega arith) l (h .2) g,
+)
 
 -- the last place, and its link
 
@@ -75,12 +77,13 @@ pub retarget : (ps : List Place) (h u : ℕ) (c : Code) (t : ℕ) → h < u → 
 retarget ps h u end t l m g = tt
 retarget ps h u (numeral k q) t l m g = (relinked ps u (suc u) q t (Numeral k) (omega arith) (omega arith) (g .0), retarget ps u (suc u) q t (omega arith) (omega arith) (g .1))
 retarget ps h u (name o q) t l m g = (relinked ps u (suc u) q t (Name o) (omega arith) (omega arith) (g .0), retarget ps u (suc u) q t (omega arith) (omega arith) (g .1))
-retarget ps h u (sequence b q) t l m g =
-    ( relinked ps u (suc (u + commands b)) q t (Sequence (link (suc u) b 0)) (omega arith) (omega arith) (g .0)
-    , agree ps (relink ps (last-place u (suc (u + commands b)) q) t) (suc u) b 0
+retarget ps h u (sequence b q) t l m g = (
+  relinked ps u (suc (u + commands b)) q t (Sequence (link (suc u) b 0)) (omega arith) (omega arith) (g .0),
+  agree ps (relink ps (last-place u (suc (u + commands b)) q) t) (suc u) b 0
       (λ i x y. other ps (last-place u (suc (u + commands b)) q) i t (λ z. ⊎-elim (λ f. omega arith) (λ f. omega arith) (last-out u (suc (u + commands b)) q (omega arith))))
-      (g .1)
-    , retarget ps u (suc (u + commands b)) q t (omega arith) (omega arith) (g .2) )
+      (g .1),
+  retarget ps u (suc (u + commands b)) q t (omega arith) (omega arith) (g .2),
+)
 
 pub last-push : (h u v : ℕ) (c x : Code) → v ≡ u + commands c → ((g : ℕ) → last-place g v x ≡ v) → last-place h u (append c x) ≡ v
 last-push h u v end x e f = let w : v ≡ u = omega arith in subst (λ (n : ℕ). last-place h n x ≡ v) w (f h)
@@ -109,8 +112,8 @@ spelled ps u (name o q) t h l s g =
     ∙ ap (λ r. name o r) (spelled ps (suc u) q t (omega arith) (omega arith) s (g .1))
 spelled ps u (sequence b q) t h l s g =
     step ps u (place (Sequence (link (suc u) b 0)) (link (suc (u + commands b)) q t)) h (omega arith) (g .0)
-      (on-link u (suc u) b 0 (omega arith) (inl refl))
-      (on-link u (suc (u + commands b)) q t (omega arith) (weaken (length ps) (suc u) t (omega arith) s))
+    (on-link u (suc u) b 0 (omega arith) (inl refl))
+    (on-link u (suc (u + commands b)) q t (omega arith) (weaken (length ps) (suc u) t (omega arith) s))
     ∙ ap (λ r. sequence r (chain ps (link (suc (u + commands b)) q t))) (spelled ps (suc u) b 0 (omega arith) (omega arith) (inl refl) (g .1))
     ∙ ap (λ r. sequence b r) (spelled ps (suc (u + commands b)) q t (omega arith) (omega arith) s (g .2))
 
@@ -182,10 +185,11 @@ module _ (ps : List Place) (forth : forward 0 ps ≡ true) where
       let p = three (holds (at ps u .command) (link (suc u) b 0)) (eqb (at ps u .next) (link (suc (u + commands b)) q t)) (lies ps (suc u) b 0 && lies ps (suc (u + commands b)) q t) l in
       let r = and-parts (lies ps (suc u) b 0) (lies ps (suc (u + commands b)) q t) (p .2) in
       let i = in-sequence (chain ps) (at ps u .command) (chain ps (at ps u .next)) b q (link (suc u) b 0) (sym (goes u h (omega arith)) ∙ e) (p .0) in
-      let n = eqb-true _ _ (p .1) in
-      ( placed-so (at ps u) (Sequence (link (suc u) b 0)) _ (i .0) n
-      , laid-of (suc u) b 0 (omega arith) (omega arith) (i .1) (r .0)
-      , laid-of (suc (u + commands b)) q t (omega arith) (omega arith) (ap (chain ps) (sym n) ∙ i .2) (r .1) )
+      let n = eqb-true _ _ (p .1) in (
+        placed-so (at ps u) (Sequence (link (suc u) b 0)) _ (i .0) n,
+        laid-of (suc u) b 0 (omega arith) (omega arith) (i .1) (r .0),
+        laid-of (suc (u + commands b)) q t (omega arith) (omega arith) (ap (chain ps) (sym n) ∙ i .2) (r .1),
+      )
 
 -- the same of the first n places, from the chain's own beginning
 begins : (ps : List Place) (u : ℕ) (c : Code) (t : ℕ) → 0 < u → u + commands c ≡ length ps → (t ≡ 0) ⊎ (length ps ≤ t) → chain ps u ≡ c → chain ps (link u c t) ≡ c
@@ -198,8 +202,8 @@ pub laid-in : (ps : List Place) (n u t : ℕ) → forward 0 ps ≡ true → 0 < 
 laid-in ps n u t f h l e s g =
     let m : length (take n ps) ≡ n = length-take-le n ps l in
     agree (take n ps) ps u (chain (take n ps) u) t (λ i a b. sym (getD-take n ps i vacant (omega arith)))
-      (laid-of (take n ps) (forward-take 0 n ps f) u (chain (take n ps) u) t h (omega arith)
-        (begins (take n ps) u (chain (take n ps) u) t h (omega arith) (weaken n (length (take n ps)) t (omega arith) s) refl) g)
+    (laid-of (take n ps) (forward-take 0 n ps f) u (chain (take n ps) u) t h (omega arith)
+    (begins (take n ps) u (chain (take n ps) u) t h (omega arith) (weaken n (length (take n ps)) t (omega arith) s) refl) g)
 
 -- the other way: what the first n places hold passes the test
 pub lies-in : (ps : List Place) (n u : ℕ) (c : Code) (t : ℕ) → n ≡ u + commands c → n ≤ length ps → Laid ps u c t → lies (take n ps) u c t ≡ true
@@ -223,12 +227,12 @@ visited ps u (name o q) later h l g =
     ∙ ap (λ (vs : List ℕ). u ∷ vs) (visited ps (suc u) q later (omega arith) (omega arith) (g .1))
 visited ps u (sequence b q) later h l g =
     ap (λ (go : List ℕ → List ℕ). go later) (passes ps u (place (Sequence (link (suc u) b 0)) (link (suc (u + commands b)) q 0)) h (omega arith) (g .0)
-      (on-link u (suc u) b 0 (omega arith) (inl refl)) (on-link u (suc (u + commands b)) q 0 (omega arith) (inl refl)))
+    (on-link u (suc u) b 0 (omega arith) (inl refl)) (on-link u (suc (u + commands b)) q 0 (omega arith) (inl refl)))
     ∙ ap (λ (vs : List ℕ). u ∷ vs)
-      ( visited ps (suc u) b (along no-more passed-at ps (link (suc (u + commands b)) q 0) later) (omega arith) (omega arith) (g .1)
-      ∙ ap (λ (vs : List ℕ). counting (suc u) (commands b) ++ vs) (visited ps (suc (u + commands b)) q later (omega arith) (omega arith) (g .2))
-      ∙ sym (append-assoc (counting (suc u) (commands b)) (counting (suc (u + commands b)) (commands q)) later)
-      ∙ ap (λ (vs : List ℕ). vs ++ later) (counting-more (suc u) (commands b) (commands q) (suc (u + commands b)) (omega arith)) )
+    (visited ps (suc u) b (along no-more passed-at ps (link (suc (u + commands b)) q 0) later) (omega arith) (omega arith) (g .1)
+    ∙ ap (λ (vs : List ℕ). counting (suc u) (commands b) ++ vs) (visited ps (suc (u + commands b)) q later (omega arith) (omega arith) (g .2))
+    ∙ sym (append-assoc (counting (suc u) (commands b)) (counting (suc (u + commands b)) (commands q)) later)
+    ∙ ap (λ (vs : List ℕ). vs ++ later) (counting-more (suc u) (commands b) (commands q) (suc (u + commands b)) (omega arith)))
 
 -- two layouts of one chain have the same places
 pub one-layout : (ps qs : List Place) (u : ℕ) (c : Code) (t : ℕ) → Laid ps u c t → Laid qs u c t → (i : ℕ) → u ≤ i → i < u + commands c → at ps i ≡ at qs i
@@ -237,7 +241,7 @@ one-layout ps qs u (numeral k q) t g h i l m = ⊎-elim (λ (e : i ≡ u). ap (a
 one-layout ps qs u (name o q) t g h i l m = ⊎-elim (λ (e : i ≡ u). ap (at ps) e ∙ (g .0 ∙ sym (h .0)) ∙ ap (at qs) (sym e)) (λ n. one-layout ps qs (suc u) q t (g .1) (h .1) i (omega arith) (omega arith)) (cases-eq i u)
 one-layout ps qs u (sequence b q) t g h i l m =
     ⊎-elim (λ (e : i ≡ u). ap (at ps) e ∙ (g .0 ∙ sym (h .0)) ∙ ap (at qs) (sym e))
-      (λ n. ⊎-elim (λ (x : i < suc (u + commands b)). one-layout ps qs (suc u) b 0 (g .1) (h .1) i (omega arith) (omega arith))
-        (λ x. one-layout ps qs (suc (u + commands b)) q t (g .2) (h .2) i (omega arith) (omega arith))
-        (cases-lt i (suc (u + commands b))))
-      (cases-eq i u)
+    (λ n. ⊎-elim (λ (x : i < suc (u + commands b)). one-layout ps qs (suc u) b 0 (g .1) (h .1) i (omega arith) (omega arith))
+    (λ x. one-layout ps qs (suc (u + commands b)) q t (g .2) (h .2) i (omega arith) (omega arith))
+    (cases-lt i (suc (u + commands b))))
+    (cases-eq i u)

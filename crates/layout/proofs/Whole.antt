@@ -46,16 +46,17 @@ parts-of t h =
     let d = three (eqb (t .commands) (commands (tree t))) (eqb (t .sequences) (sequences (tree t))) (leb (commands (tree t)) most-commands && leb (t .parameters) most-parameters) (c .0) in
     let e = and-parts (leb (commands (tree t)) most-commands) (leb (t .parameters) most-parameters) (d .2) in
     let f = and-parts (eqb (at (t .places) 0 .next) (link 1 (tree t) 0)) (lies (t .places) 1 (tree t) 0) (c .1) in
-    record
-      { long = eqb-true _ _ (b .0)
-      ; forth = b .1
-      ; numbers = b .2
-      ; commands-so = eqb-true _ _ (d .0)
-      ; sequences-so = eqb-true _ _ (d .1)
-      ; few = leb-true _ _ (e .0)
-      ; parameters = leb-true _ _ (e .1)
-      ; head = eqb-true _ _ (f .0)
-      ; links = f .1 }
+    record {
+      long = eqb-true _ _ (b .0);
+      forth = b .1;
+      numbers = b .2;
+      commands-so = eqb-true _ _ (d .0);
+      sequences-so = eqb-true _ _ (d .1);
+      few = leb-true _ _ (e .0);
+      parameters = leb-true _ _ (e .1);
+      head = eqb-true _ _ (f .0);
+      links = f .1;
+    }
 
 -- its commands lie at the places 1, 2, 3 and so on
 pub laid-out : (t : Table) → whole t ≡ true → Laid (t .places) 1 (tree t) 0
@@ -108,9 +109,11 @@ at-end t v vs w e = ap (λ (c : Code). onto c (after (t .places) vs)) (ends v (s
   where
     long : length (t .places) ≡ table-places
     long = parts-of t w .long
+
     stops : (v : ℕ) → None ≡ place-at (t .places) v → (v ≡ 0) ⊎ (table-places ≤ v)
     stops v = cond-both (eqb v 0 || leb table-places v) None (Some (at (t .places) v)) (λ (o : Option Place). None ≡ o → (v ≡ 0) ⊎ (table-places ≤ v))
-      (λ y z. ⊎-elim (λ x. inl (eqb-true v 0 x)) (λ x. inr (leb-true table-places v x)) (or-cases (eqb v 0) (leb table-places v) y)) (λ y z. let no : _≡_ {A = ℕ} 0 1 = cc in absurd (omega arith))
+        (λ y z. ⊎-elim (λ x. inl (eqb-true v 0 x)) (λ x. inr (leb-true table-places v x)) (or-cases (eqb v 0) (leb table-places v) y)) (λ y z. let no : _≡_ {A = ℕ} 0 1 = cc in absurd (omega arith))
+
     ends : (v : ℕ) → (v ≡ 0) ⊎ (table-places ≤ v) → chain (t .places) v ≡ end
     ends v s = ⊎-elim (λ x. ap (chain (t .places)) x) (λ x. past (t .places) v (omega (arith, long))) s
 

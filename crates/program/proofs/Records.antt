@@ -14,9 +14,10 @@ one-record p q e =
     let a = parts-of (p .table) (p .whole) in
     let b = parts-of (q .table) (q .whole) in
     let n = a .commands-so in
-    record
-      { parameters = ap parameters-of e
-      ; commands = a .commands-so ∙ ap commands t ∙ sym (b .commands-so)
-      ; sequences = a .sequences-so ∙ ap sequences t ∙ sym (b .sequences-so)
-      ; head = a .head ∙ ap (λ (c : Code). link 1 c 0) t ∙ sym (b .head)
-      ; places = λ i l m. same-places (p .table) (q .table) (p .whole) (q .whole) t i l (omega arith) }
+    record {
+      parameters = ap parameters-of e;
+      commands = a .commands-so ∙ ap commands t ∙ sym (b .commands-so);
+      sequences = a .sequences-so ∙ ap sequences t ∙ sym (b .sequences-so);
+      head = a .head ∙ ap (λ (c : Code). link 1 c 0) t ∙ sym (b .head);
+      places = λ i l m. same-places (p .table) (q .table) (p .whole) (q .whole) t i l (omega arith);
+    }

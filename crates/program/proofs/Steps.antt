@@ -58,16 +58,24 @@ pub unmoved : (b : Builder) → Stays b b
 unmoved b = record { rooms = refl; arities = refl; names = refl; memories = refl }
 
 took : (e : Event) (b d : Builder) (f : Draft) → Stays b d → offered e (working b) (room (now (b .opens))) ≡ Ok f → working d ≡ f → Took e b d (Ok tt)
-took e b d f s h w = record
-    { answers = ap answer (sym h)
-    ; holds = w ∙ ap (λ (x : Result Draft Refusal). draft-after x (working b)) (sym h)
-    ; room = s .rooms; arity = s .arities; same = s .names; places = s .memories }
+took e b d f s h w = record {
+  answers = ap answer (sym h);
+  holds = w ∙ ap (λ (x : Result Draft Refusal). draft-after x (working b)) (sym h);
+  room = s .rooms;
+  arity = s .arities;
+  same = s .names;
+  places = s .memories;
+}
 
 refused : (e : Event) (b d : Builder) (r : Refusal) → Stays b d → offered e (working b) (room (now (b .opens))) ≡ Err r → working d ≡ working b → Took e b d (Err r)
-refused e b d r s h w = record
-    { answers = ap answer (sym h)
-    ; holds = w ∙ ap (λ (x : Result Draft Refusal). draft-after x (working b)) (sym h)
-    ; room = s .rooms; arity = s .arities; same = s .names; places = s .memories }
+refused e b d r s h w = record {
+  answers = ap answer (sym h);
+  holds = w ∙ ap (λ (x : Result Draft Refusal). draft-after x (working b)) (sym h);
+  room = s .rooms;
+  arity = s .arities;
+  same = s .names;
+  places = s .memories;
+}
 
 -- there is room for one more command, or not
 module _ (b : Builder) where
@@ -108,7 +116,7 @@ module _ (b : Builder) (k : ℤ) where
       → Held qs (b .used + 1) (b .used) (b .sequences) (held (now (b .opens))) (draft (append (inner (b .places) (b .used) (held (now (b .opens)))) (numeral k end)) (outer (b .places) (held (now (b .opens)))))
   numeral-kept qs same l r =
       subst (λ (x : List Place). Held x (b .used + 1) (b .used) (b .sequences) (held (now (b .opens))) (draft (append (inner (b .places) (b .used) (held (now (b .opens)))) (numeral k end)) (outer (b .places) (held (now (b .opens))))))
-        (sym same) (add-numeral (b .places) (b .used) (b .last) (b .sequences) (held (now (b .opens))) (b .sound) k l r)
+      (sym same) (add-numeral (b .places) (b .used) (b .last) (b .sequences) (held (now (b .opens))) (b .sound) k l r)
 
   pub numeral-taken : (d : Builder) → Stays b d → b .used < table-places → working d ≡ draft (append (inner (b .places) (b .used) (held (now (b .opens)))) (numeral k end)) (outer (b .places) (held (now (b .opens)))) → Took (NumeralEvent k) b d (Ok tt)
   numeral-taken d s l w = took (NumeralEvent k) b d (draft (append (inner (b .places) (b .used) (held (now (b .opens)))) (numeral k end)) (outer (b .places) (held (now (b .opens))))) s
@@ -124,7 +132,7 @@ module _ (b : Builder) (o : CommandName) where
       → Held qs (b .used + 1) (b .used) (b .sequences) (held (now (b .opens))) (draft (append (inner (b .places) (b .used) (held (now (b .opens)))) (name-then o end)) (outer (b .places) (held (now (b .opens)))))
   name-kept qs same l =
       subst (λ (x : List Place). Held x (b .used + 1) (b .used) (b .sequences) (held (now (b .opens))) (draft (append (inner (b .places) (b .used) (held (now (b .opens)))) (name-then o end)) (outer (b .places) (held (now (b .opens))))))
-        (sym same) (add-name (b .places) (b .used) (b .last) (b .sequences) (held (now (b .opens))) (b .sound) o l)
+      (sym same) (add-name (b .places) (b .used) (b .last) (b .sequences) (held (now (b .opens))) (b .sound) o l)
 
   pub name-taken : (d : Builder) → Stays b d → b .used < table-places → working d ≡ draft (append (inner (b .places) (b .used) (held (now (b .opens)))) (name-then o end)) (outer (b .places) (held (now (b .opens)))) → Took (NameEvent o) b d (Ok tt)
   name-taken d s l w = took (NameEvent o) b d (draft (append (inner (b .places) (b .used) (held (now (b .opens)))) (name-then o end)) (outer (b .places) (held (now (b .opens))))) s
@@ -140,8 +148,8 @@ module _ (b : Builder) where
       → Held qs (b .used + 1) 0 (b .sequences + 1) os (draft end (inner (b .places) (b .used) (held (now (b .opens))) ∷ outer (b .places) (held (now (b .opens)))))
   open-kept qs os same over l =
       subst (λ (x : List Place). Held x (b .used + 1) 0 (b .sequences + 1) os (draft end (inner (b .places) (b .used) (held (now (b .opens))) ∷ outer (b .places) (held (now (b .opens)))))) (sym same)
-        (subst (λ (x : List ℕ). Held (placed (b .places) (b .last) (b .used) (Sequence 0)) (b .used + 1) 0 (b .sequences + 1) x (draft end (inner (b .places) (b .used) (held (now (b .opens))) ∷ outer (b .places) (held (now (b .opens)))))) (sym over)
-          (add-open (b .places) (b .used) (b .last) (b .sequences) (held (now (b .opens))) (b .sound) l))
+      (subst (λ (x : List ℕ). Held (placed (b .places) (b .last) (b .used) (Sequence 0)) (b .used + 1) 0 (b .sequences + 1) x (draft end (inner (b .places) (b .used) (held (now (b .opens))) ∷ outer (b .places) (held (now (b .opens)))))) (sym over)
+      (add-open (b .places) (b .used) (b .last) (b .sequences) (held (now (b .opens))) (b .sound) l))
 
   leads-in : b .used < table-places → feed Open (working b) ≡ Some (draft end (inner (b .places) (b .used) (held (now (b .opens))) ∷ outer (b .places) (held (now (b .opens)))))
   leads-in l = admitted b _ l
@@ -177,7 +185,7 @@ module _ (b : Builder) (o : ℕ) (os : List ℕ) (top : held (now (b .opens)) �
       → Held (set (b .places) o (place (Sequence first) 0)) (b .used) o (b .sequences) rest (draft (append (inner (b .places) o os) (sequence (inner (b .places) (b .used) (o ∷ os)) end)) (outer (b .places) os))
   close-kept first rest same x y =
       subst (λ (z : List ℕ). Held (set (b .places) o (place (Sequence first) 0)) (b .used) o (b .sequences) z (draft (append (inner (b .places) o os) (sequence (inner (b .places) (b .used) (o ∷ os)) end)) (outer (b .places) os))) (sym same)
-        (add-close (b .places) (b .used) (b .last) (b .sequences) o os first under (λ h. x (omega arith)) (λ h. let e = y (λ z. h (omega arith)) in omega arith))
+      (add-close (b .places) (b .used) (b .last) (b .sequences) o os first under (λ h. x (omega arith)) (λ h. let e = y (λ z. h (omega arith)) in omega arith))
 
   closes : feed Close (working b) ≡ Some (draft (append (inner (b .places) o os) (sequence (inner (b .places) (b .used) (o ∷ os)) end)) (outer (b .places) os))
   closes = ap (λ (x : List ℕ). feed Close (drafted (b .places) (b .used) x)) top
@@ -208,11 +216,12 @@ finishes b first t l x y places n s k =
     let h : holds-draft (b .places) (b .used) (b .last) (b .sequences) [] ≡ true = subst (λ (os : List ℕ). holds-draft (b .places) (b .used) (b .last) (b .sequences) os ≡ true) none (b .sound) in
     let few = b .arity .few in
     let r = finish (b .places) (b .used) (b .last) (b .sequences) first t h x y places n s (omega arith) in
-    record
-      { kept = r .1
-      ; built =
+    record {
+      kept = r .1;
+      built =
           ap (λ (m : ℕ). Some (source m (tree t))) k ∙ ap (λ (c : Code). Some (source (b .arity .count) c)) (r .0)
-          ∙ ap (λ (os : List ℕ). completed (b .arity .count) (finished (drafted (b .places) (b .used) os))) (sym none) }
+          ∙ ap (λ (os : List ℕ). completed (b .arity .count) (finished (drafted (b .places) (b .used) os))) (sym none);
+    }
 
 -- the beginning
 

@@ -30,8 +30,18 @@ impl<'a, 'b> Builder<'a, 'b> {
         ensures places { λ r. ⌜ name (now (r .opens) .places) ≡ name (now (opens .entry) .places) ⌝ }
     {
         opens.clear();
-        let vacant = Place { command: Command::Numeral(0), next: 0 };
-        Builder { places: [vacant; PLACES], used: 1, last: 0, sequences: 0, arity, opens }
+        let vacant = Place {
+            command: Command::Numeral(0),
+            next: 0,
+        };
+        Builder {
+            places: [vacant; PLACES],
+            used: 1,
+            last: 0,
+            sequences: 0,
+            arity,
+            opens,
+        }
     }
 
     // What comes next in the text.
@@ -96,7 +106,10 @@ impl<'a, 'b> Builder<'a, 'b> {
             return Err(Refusal::Bracket);
         };
         let first = if self.used == at + 1 { 0 } else { at + 1 };
-        self.places[at as usize] = Place { command: Command::Sequence(first), next: 0 };
+        self.places[at as usize] = Place {
+            command: Command::Sequence(first),
+            next: 0,
+        };
         self.last = at;
         Ok(())
     }
@@ -110,8 +123,16 @@ impl<'a, 'b> Builder<'a, 'b> {
         }
         let first = if self.used == 1 { 0 } else { 1 };
         let mut places = self.places;
-        places[0] = Place { command: Command::Numeral(0), next: first };
-        let table = Table { places, commands: self.used - 1, sequences: self.sequences, parameters: self.arity.count() };
+        places[0] = Place {
+            command: Command::Numeral(0),
+            next: first,
+        };
+        let table = Table {
+            places,
+            commands: self.used - 1,
+            sequences: self.sequences,
+            parameters: self.arity.count(),
+        };
         Some(Program { table })
     }
 }

@@ -35,8 +35,18 @@ impl Program {
     pub fn new() -> Program
         ensures { λ r. ⌜ program-of r ≡ source 0 end ⌝ }
     {
-        let vacant = Place { command: Command::Numeral(0), next: 0 };
-        Program { table: Table { places: [vacant; PLACES], commands: 0, sequences: 0, parameters: 0 } }
+        let vacant = Place {
+            command: Command::Numeral(0),
+            next: 0,
+        };
+        Program {
+            table: Table {
+                places: [vacant; PLACES],
+                commands: 0,
+                sequences: 0,
+                parameters: 0,
+            },
+        }
     }
 
     // How many parameters it has.
@@ -74,11 +84,9 @@ impl Program {
 // In every record a walk from the head passes each used place just once.
 pub fn each_place_is_reached_once()
     ensures { λ _. ⌜ Reaches-each-place-once ⌝ }
-{
-}
+{}
 
 // Two records of one program are alike in all that they use.
 pub fn one_program_has_one_record()
     ensures { λ _. ⌜ One-program-one-record ⌝ }
-{
-}
+{}

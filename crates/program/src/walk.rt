@@ -29,7 +29,11 @@ impl<'a, 'b, 'c> Walker<'a, 'b, 'c> {
         ensures places { λ r. ⌜ name (now (r .after) .places) ≡ name (now (after .entry) .places) ⌝ }
     {
         after.clear();
-        Walker { program, at: program.table.places[0].next, after }
+        Walker {
+            program,
+            at: program.table.places[0].next,
+            after,
+        }
     }
 
     // What comes next in the text; none at its end.

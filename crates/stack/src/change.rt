@@ -1,5 +1,5 @@
 // How a stack comes about, grows and shrinks.
-ghost use Rattle.stack.specs.Held.{held, room};
+ghost use Rattle.stack.specs.Held.{held, memory, room};
 ghost use Rattle.stack.specs.Items.{headOf, tailOf};
 ghost use denote.Ref.{name};
 ghost use lib.Dec.{ltb};
@@ -15,7 +15,7 @@ impl<'a, T: Copy> Stack<'a, T> {
         ensures none { λ r. ⌜ held r ≡ [] ⌝ }
         ensures room { λ r. ⌜ room r ≡ length (now (places .entry)) ⌝ }
         ensures same { λ r. ⌜ name (r .places) ≡ name (places .entry) ⌝ }
-        ensures over { λ r. ⌜ now (r .places) ≡ now (places .entry) ⌝ }
+        ensures over { λ r. ⌜ memory r ≡ now (places .entry) ⌝ }
     {
         Stack { places, len: 0 }
     }
@@ -26,7 +26,7 @@ impl<'a, T: Copy> Stack<'a, T> {
         ensures same { λ _. ⌜ name (now (self .exit) .places) ≡ name (now (self .entry) .places) ⌝ }
         ensures fits { λ r. ⌜ r ≡ ltb (length (held (now (self .entry)))) (room (now (self .entry))) ⌝ }
         ensures items { λ r. ⌜ held (now (self .exit)) ≡ cond r (x ∷ held (now (self .entry))) (held (now (self .entry))) ⌝ }
-        ensures over { λ r. ⌜ now (now (self .exit) .places) ≡ cond r (set (now (now (self .entry) .places)) (length (held (now (self .entry)))) x) (now (now (self .entry) .places)) ⌝ }
+        ensures over { λ r. ⌜ memory (now (self .exit)) ≡ cond r (set (memory (now (self .entry))) (length (held (now (self .entry)))) x) (memory (now (self .entry))) ⌝ }
     {
         if self.len < self.places.len() {
             self.places[self.len] = x;
@@ -43,7 +43,7 @@ impl<'a, T: Copy> Stack<'a, T> {
         ensures same { λ _. ⌜ name (now (self .exit) .places) ≡ name (now (self .entry) .places) ⌝ }
         ensures top { λ r. ⌜ r ≡ headOf (held (now (self .entry))) ⌝ }
         ensures rest { λ _. ⌜ held (now (self .exit)) ≡ tailOf (held (now (self .entry))) ⌝ }
-        ensures over { λ _. ⌜ now (now (self .exit) .places) ≡ now (now (self .entry) .places) ⌝ }
+        ensures over { λ _. ⌜ memory (now (self .exit)) ≡ memory (now (self .entry)) ⌝ }
     {
         if self.len == 0 {
             return None;
@@ -57,7 +57,7 @@ impl<'a, T: Copy> Stack<'a, T> {
         ensures size { λ _. ⌜ room (now (self .exit)) ≡ room (now (self .entry)) ⌝ }
         ensures same { λ _. ⌜ name (now (self .exit) .places) ≡ name (now (self .entry) .places) ⌝ }
         ensures none { λ _. ⌜ held (now (self .exit)) ≡ [] ⌝ }
-        ensures over { λ _. ⌜ now (now (self .exit) .places) ≡ now (now (self .entry) .places) ⌝ }
+        ensures over { λ _. ⌜ memory (now (self .exit)) ≡ memory (now (self .entry)) ⌝ }
     {
         self.len = 0;
     }

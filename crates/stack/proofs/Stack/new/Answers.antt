@@ -1,3 +1,4 @@
+-- A new stack holds nothing.
 use mathlib.Core.Path.{refl}
 use Rattle.stack.proofs.Laws.{items-none}
 use Rattle.stack.proofs.Stack.new.Needs as need

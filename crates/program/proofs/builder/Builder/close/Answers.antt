@@ -34,17 +34,18 @@ index-self-at c =
 
 pub ghost-self-2 : need.ghost-self-2
 ghost-self-2 c =
-    let e = cons-of (held (c .args .self .now .opens .now)) (c .in-Some .at) (sym (c .in-Some .is) ∙ c .pop .ensures .top) in
-    ( close-kept (c .args .self .now) (c .in-Some .at) (tailOf (held (c .args .self .now .opens .now))) e (c .if-self-at .first) (held (c .pop .last .self)) (c .pop .ensures .rest)
-        (λ h. elim (c .if-self-at .came) [ then-self-at w ↦ w .first-is | else-self-at w ↦ absurd (w .if-self-at .left h) ])
-        (λ h. elim (c .if-self-at .came) [ then-self-at w ↦ absurd (h (w .if-self-at .taken)) | else-self-at w ↦ w .first-is ]) .kept
-    , tt )
+    let e = cons-of (held (c .args .self .now .opens .now)) (c .in-Some .at) (sym (c .in-Some .is) ∙ c .pop .ensures .top) in (
+      close-kept (c .args .self .now) (c .in-Some .at) (tailOf (held (c .args .self .now .opens .now))) e (c .if-self-at .first) (held (c .pop .last .self)) (c .pop .ensures .rest)
+          (λ h. elim (c .if-self-at .came) [ then-self-at w ↦ w .first-is | else-self-at w ↦ absurd (w .if-self-at .left h) ])
+          (λ h. elim (c .if-self-at .came) [ then-self-at w ↦ absurd (h (w .if-self-at .taken)) | else-self-at w ↦ w .first-is ]) .kept,
+      tt,
+    )
 
 pub returns : need.returns
 returns c =
     let p = c .pop .ensures in
     let e = cons-of (held (c .args .self .now .opens .now)) (c .in-Some .at) (sym (c .in-Some .is) ∙ c .pop .ensures .top) in
     close-taken (c .args .self .now) (c .in-Some .at) (tailOf (held (c .args .self .now .opens .now))) e _ (record { rooms = p .size; arities = refl; names = refl; memories = p .same })
-      (close-kept (c .args .self .now) (c .in-Some .at) (tailOf (held (c .args .self .now .opens .now))) e (c .if-self-at .first) (held (c .pop .last .self)) (p .rest)
-        (λ h. elim (c .if-self-at .came) [ then-self-at w ↦ w .first-is | else-self-at w ↦ absurd (w .if-self-at .left h) ])
-        (λ h. elim (c .if-self-at .came) [ then-self-at w ↦ absurd (h (w .if-self-at .taken)) | else-self-at w ↦ w .first-is ]) .told)
+    (close-kept (c .args .self .now) (c .in-Some .at) (tailOf (held (c .args .self .now .opens .now))) e (c .if-self-at .first) (held (c .pop .last .self)) (p .rest)
+    (λ h. elim (c .if-self-at .came) [ then-self-at w ↦ w .first-is | else-self-at w ↦ absurd (w .if-self-at .left h) ])
+    (λ h. elim (c .if-self-at .came) [ then-self-at w ↦ absurd (h (w .if-self-at .taken)) | else-self-at w ↦ w .first-is ]) .told)

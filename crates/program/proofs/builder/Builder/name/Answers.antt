@@ -14,4 +14,4 @@ ghost-self c = (name-kept (c .args .self .now) (c .args .o) (c .put .last .place
 pub returns : need.returns
 returns c =
     name-taken (c .args .self .now) (c .args .o) _ (record { rooms = refl; arities = refl; names = refl; memories = refl }) (c .if-at-ge-PLACES .left)
-      (name-kept (c .args .self .now) (c .args .o) (c .put .last .places) (c .put .ensures) (c .if-at-ge-PLACES .left) .told)
+    (name-kept (c .args .self .now) (c .args .o) (c .put .last .places) (c .put .ensures) (c .if-at-ge-PLACES .left) .told)

@@ -8,9 +8,10 @@ ghost-result c = (fresh-kept (held (c .clear .last .self)) (c .clear .ensures .n
 
 pub returns : need.returns
 returns c =
-    record
-      { start = fresh-kept (held (c .clear .last .self)) (c .clear .ensures .none) .told
-      ; arity = refl
-      ; room = c .clear .ensures .size
-      ; same = refl
-      ; places = c .clear .ensures .same }
+    record {
+      start = fresh-kept (held (c .clear .last .self)) (c .clear .ensures .none) .told;
+      arity = refl;
+      room = c .clear .ensures .size;
+      same = refl;
+      places = c .clear .ensures .same;
+    }

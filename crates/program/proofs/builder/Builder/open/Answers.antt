@@ -16,7 +16,7 @@ pub returns-then-not-push : need.returns-then-not-push
 returns-then-not-push c =
     let p = c .push .ensures in
     open-short (c .args .self .now) _ (c .push .result) (record { rooms = p .size; arities = refl; names = refl; memories = p .same }) (c .if-at-ge-PLACES .left) (p .fits) (c .if-not-push .taken)
-      (ap (drafted (c .args .self .now .places) (c .args .self .now .used)) (p .items ∙ cond-false (c .push .result) _ _ (c .if-not-push .taken)))
+    (ap (drafted (c .args .self .now .places) (c .args .self .now .used)) (p .items ∙ cond-false (c .push .result) _ _ (c .if-not-push .taken)))
 
 pub put-requires : need.put-requires
 put-requires c κs = both-in (c .args .self .now) (c .if-at-ge-PLACES .left)
@@ -34,5 +34,5 @@ pub returns : need.returns
 returns c =
     let p = c .push .ensures in
     open-taken (c .args .self .now) _ (c .push .result) (record { rooms = p .size; arities = refl; names = refl; memories = p .same }) (c .if-at-ge-PLACES .left) (p .fits) (c .if-not-push .left)
-      (open-kept (c .args .self .now) (c .put .last .places) (held (c .push .last .self)) (c .put .ensures)
-        (p .items ∙ cond-true (c .push .result) _ _ (c .if-not-push .left)) (c .if-at-ge-PLACES .left) .told)
+    (open-kept (c .args .self .now) (c .put .last .places) (held (c .push .last .self)) (c .put .ensures)
+    (p .items ∙ cond-true (c .push .result) _ _ (c .if-not-push .left)) (c .if-at-ge-PLACES .left) .told)

@@ -20,11 +20,12 @@ returns c =
     let n : length (held (c .clear .last .self)) ≡ 0 = ap length (e .none) in
     let few = parts-of (c .args .program .now .table) (c .args .program .now .whole) .few in
     let size = e .size in
-    record
-      { all = all
-      ; over = refl
-      ; room = e .size
-      ; outside = n
-      ; ample = λ l. omega (arith, openings-onto (tree (c .args .program .now .table)) [], sequences-le (tree (c .args .program .now .table)))
-      ; same = refl
-      ; places = e .same }
+    record {
+      all = all;
+      over = refl;
+      room = e .size;
+      outside = n;
+      ample = λ l. omega (arith, openings-onto (tree (c .args .program .now .table)) [], sequences-le (tree (c .args .program .now .table)));
+      same = refl;
+      places = e .same;
+    }
