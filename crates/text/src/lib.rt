@@ -1,0 +1,1 @@
+// Reading a program from a text, and printing it back.
