@@ -1,3 +1,4 @@
 pub mod Steps
 pub mod Records
 pub mod Walking
+pub mod Offers
