@@ -1,2 +1,3 @@
 pub mod Turns
 pub mod Texts
+pub mod Positions
