@@ -14,15 +14,18 @@ loop-i-again c =
     let inv = c .loop-i .inv in
     let less : c .loop-i .i < c .min-end .result = c .loop-i-test .taken in
     let m = one-more (c .args .text .now) (c .min-end .result) (c .loop-i .i) (at-line (c .loop-i .line) (c .loop-i .column)) less end in
-    elim (c .if-text-i-eq10 .came)
-      [ then-text-i-eq10 w ↦
-          ( ap (λ (p : Position). position-after p (drop (c .loop-i .i + 1) (take (c .min-end .result) (c .args .text .now)))) (past-line-feed (c .loop-i .line) (c .loop-i .column) (getD (c .args .text .now) (c .loop-i .i) 0) _ _ (w .if-text-i-eq10 .taken) (w .line-is) (w .column-is)) ∙ sym m ∙ inv .0
-          , omega (arith, inv .1, w .line-is)
-          , omega (arith, inv .2, w .column-is) )
-      | else-text-i-eq10 w ↦
-          ( ap (λ (p : Position). position-after p (drop (c .loop-i .i + 1) (take (c .min-end .result) (c .args .text .now)))) (past-other (c .loop-i .line) (c .loop-i .column) (getD (c .args .text .now) (c .loop-i .i) 0) _ _ (w .if-text-i-eq10 .left) (w .line-is) (w .column-is)) ∙ sym m ∙ inv .0
-          , omega (arith, inv .1, w .line-is)
-          , omega (arith, inv .2, w .column-is) ) ]
+    elim (c .if-text-i-eq10 .came) [
+      | then-text-i-eq10 w ↦ (
+        ap (λ (p : Position). position-after p (drop (c .loop-i .i + 1) (take (c .min-end .result) (c .args .text .now)))) (past-line-feed (c .loop-i .line) (c .loop-i .column) (getD (c .args .text .now) (c .loop-i .i) 0) _ _ (w .if-text-i-eq10 .taken) (w .line-is) (w .column-is)) ∙ sym m ∙ inv .0,
+        omega (arith, inv .1, w .line-is),
+        omega (arith, inv .2, w .column-is),
+      )
+      | else-text-i-eq10 w ↦ (
+        ap (λ (p : Position). position-after p (drop (c .loop-i .i + 1) (take (c .min-end .result) (c .args .text .now)))) (past-other (c .loop-i .line) (c .loop-i .column) (getD (c .args .text .now) (c .loop-i .i) 0) _ _ (w .if-text-i-eq10 .left) (w .line-is) (w .column-is)) ∙ sym m ∙ inv .0,
+        omega (arith, inv .1, w .line-is),
+        omega (arith, inv .2, w .column-is),
+      )
+    ]
 
 pub returns : need.returns
 returns c =

@@ -1,0 +1,93 @@
+// What is said of a text: the program in its standard form, or the refusal and where the wrong token stands.
+use codes::Refusal;
+use codes::RefusalDisplay;
+use program::Program;
+use std::alloc::AllocError;
+use std::alloc::Global;
+use std::error::AnyError;
+use std::str;
+use syntax::MOST_BYTES;
+use syntax::WORKING_PLACES;
+use text::ReadError;
+use text::locate;
+use text::print;
+use text::read;
+
+// Some lines, and whether the text was accepted.
+#[derive(Drop)]
+pub struct Report {
+    pub lines: String,
+    pub accepted: bool,
+}
+
+// What is said of a text.
+pub fn read_report(heap: Global, text: &[u8]) -> Result<Report, AnyError> {
+    let mut program = Program::new();
+    let mut brackets = [0u16; WORKING_PLACES];
+    let lines = match read(text, &mut brackets, &mut program) {
+        Ok(()) => return Ok(Report {
+            lines: standard_form(heap, &program)?,
+            accepted: true,
+        }),
+        Err(error) => refusal(heap, text, error)?,
+    };
+    Ok(Report {
+        lines,
+        accepted: false,
+    })
+}
+
+// The program's text, and a line of its counts.
+fn standard_form(heap: Global, program: &Program) -> Result<String, AnyError> {
+    let mut chains = [0u16; WORKING_PLACES];
+    let mut out = [0u8; MOST_BYTES];
+    let Ok(len) = print(program, &mut chains, &mut out) else {
+        return Err("the print does not fit".into());
+    };
+    let Some(bytes) = out.get(0..len) else {
+        return Err("the print does not fit".into());
+    };
+    let text = str::from_utf8(bytes)?;
+    let parameters = program.parameters();
+    let commands = program.commands();
+    let sequences = program.sequences();
+    Ok(
+        format!(
+            heap,
+            "{text}\nparameters {parameters}, commands {commands}, sequences {sequences}\n"
+        )?,
+    )
+}
+
+// The refusal, where the wrong token stands if one is to blame, and what is wrong with it.
+fn refusal(heap: Global, text: &[u8], error: ReadError) -> Result<String, AllocError> {
+    let code = error.refusal;
+    let reason = reason(error);
+    match error.at {
+        Some(at) => {
+            let here = locate(text, at);
+            let line = here.line;
+            let column = here.column;
+            format!(
+                heap,
+                "refused {code} at line {line}, column {column}: {reason}\n"
+            )
+        }
+        None => format!(heap, "refused {code}: {reason}\n"),
+    }
+}
+
+// What is wrong, in words.
+fn reason(error: ReadError) -> &'static str {
+    match (error.refusal, error.at) {
+        (Refusal::Long, _) => "a text has at most 4096 bytes",
+        (Refusal::Word, _) => "this is neither a name nor a numeral",
+        (Refusal::Range, _) => "a numeral is from -2147483648 to 2147483647",
+        (Refusal::Bracket, Some(_)) => "nothing may follow the program's last bracket",
+        (Refusal::Bracket, None) => "the text ends before the program's last bracket",
+        (Refusal::Head, Some(_)) => "a program begins with (postfix and a count from 0 to 8",
+        (Refusal::Head, None) => "the text ends before a program begins",
+        (Refusal::Crowd, _) => "this is one command more than the 255 that a program may have",
+        _ => "this text cannot be read here",
+    }
+}
