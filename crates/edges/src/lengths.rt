@@ -3,11 +3,11 @@ use codes::Refusal;
 use codes::RefusalDebug;
 use codes::RefusalPartialEq;
 use program::Program;
+use reader::read;
 use std::alloc::AllocError;
 use std::alloc::Global;
 use std::test::*;
 use syntax::WORKING_PLACES;
-use text::read;
 
 // A head, a word so many times, and an end.
 fn repeated(heap: Global, word: &[u8], times: usize, end: &[u8]) -> Result<Vec<u8>, AllocError> {

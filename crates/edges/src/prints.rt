@@ -2,11 +2,11 @@
 use codes::Refusal;
 use codes::RefusalDebug;
 use codes::RefusalPartialEq;
+use printer::print;
 use program::Program;
+use reader::read;
 use std::test::*;
 use syntax::WORKING_PLACES;
-use text::print;
-use text::read;
 
 const ROOM: usize = 64;
 

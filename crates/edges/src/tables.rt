@@ -1,8 +1,8 @@
 // Short texts, each with the number of its refusal and the place of the wrong token, or with 0 where it is read.
 use program::Program;
+use reader::read;
 use std::test::*;
 use syntax::WORKING_PLACES;
-use text::read;
 
 // The number of the refusal, 0 where there is none, and the place that is to blame, 9999 where there is none.
 fn verdict(text: &[u8]) -> (u8, usize) {

@@ -1,17 +1,17 @@
 // What is said of a text: the program in its standard form, or the refusal and where the wrong token stands.
 use codes::Refusal;
 use codes::RefusalDisplay;
+use printer::print;
 use program::Program;
+use reader::ReadError;
+use reader::locate;
+use reader::read;
 use std::alloc::AllocError;
 use std::alloc::Global;
 use std::error::AnyError;
 use std::str;
 use syntax::MOST_BYTES;
 use syntax::WORKING_PLACES;
-use text::ReadError;
-use text::locate;
-use text::print;
-use text::read;
 
 // Some lines, and whether the text was accepted.
 #[derive(Drop)]

@@ -1,0 +1,4 @@
+// Printing a program in its one standard form.
+mod printing;
+
+pub use printing::print;
