@@ -13,7 +13,16 @@ const USAGE: &str = "usage:
                      and print it in its standard form";
 
 fn main(rt: LibcRuntime) -> Result<(), AnyError> {
-    let mut words = env::args(&rt)?;
+    let mut words = match env::args(&rt) {
+        Ok(words) => words,
+        Err(error) => {
+            eprintln!(
+                rt,
+                "cannot read the arguments, which have to be UTF-8: {error}"
+            )?;
+            return Err("no arguments".into());
+        }
+    };
     let _program = words.next();
     let Some(name) = words.next() else {
         rt.println(USAGE)?;

@@ -9,7 +9,7 @@ use reader::read;
 use std::alloc::AllocError;
 use std::alloc::Global;
 use std::error::AnyError;
-use std::str;
+use std::str::from_utf8;
 use syntax::MOST_BYTES;
 use syntax::WORKING_PLACES;
 
@@ -47,7 +47,7 @@ fn standard_form(heap: Global, program: &Program) -> Result<String, AnyError> {
     let Some(bytes) = out.get(0..len) else {
         return Err("the print does not fit".into());
     };
-    let text = str::from_utf8(bytes)?;
+    let text = from_utf8(bytes)?;
     let parameters = program.parameters();
     let commands = program.commands();
     let sequences = program.sequences();
@@ -62,7 +62,11 @@ fn standard_form(heap: Global, program: &Program) -> Result<String, AnyError> {
 // The refusal, where the wrong token stands if one is to blame, and what is wrong with it.
 fn refusal(heap: Global, text: &[u8], error: ReadError) -> Result<String, AllocError> {
     let code = error.refusal;
-    let reason = reason(error);
+    let reason = if text.is_empty() {
+        "the text is empty"
+    } else {
+        reason(error)
+    };
     match error.at {
         Some(at) => {
             let here = locate(text, at);
@@ -89,5 +93,45 @@ fn reason(error: ReadError) -> &'static str {
         (Refusal::Head, None) => "the text ends before a program begins",
         (Refusal::Crowd, _) => "this is one command more than the 255 that a program may have",
         _ => "this text cannot be read here",
+    }
+}
+
+#[cfg(test)]
+mod tests {
+    use super::*;
+    use std::test::*;
+
+    fn says(rt: &LibcRuntime, text: &[u8], lines: &str) -> Result<(), Fail> {
+        let report = read_report(rt.alloc(), text)?;
+        check(report.lines.as_str() == lines).note(lines)
+    }
+
+    #[test]
+    fn refusals(rt: LibcRuntime) -> Result<(), Fail> {
+        says(&rt, b"", "refused 5 head: the text is empty\n")?;
+        says(
+            &rt,
+            b"(postfix 9)",
+            "refused 5 head at line 1, column 10: a program begins with (postfix and a count from 0 to 8\n",
+        )?;
+        says(
+            &rt,
+            b"(postfix 1\n\n  pop\n\t ad)",
+            "refused 2 word at line 4, column 3: this is neither a name nor a numeral\n",
+        )?;
+        says(
+            &rt,
+            b"(postfix 0 1",
+            "refused 4 bracket: the text ends before the program's last bracket\n",
+        )
+    }
+
+    #[test]
+    fn standard_form_and_counts(rt: LibcRuntime) -> Result<(), Fail> {
+        says(
+            &rt,
+            b"( postfix 02( )add)",
+            "(postfix 2 () add)\nparameters 2, commands 2, sequences 1\n",
+        )
     }
 }

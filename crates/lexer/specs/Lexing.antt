@@ -31,7 +31,7 @@ first None ts = []
 first (Some t) ts = lexeme t ∷ ts
 
 -- where the token that was given begins: at a place of the text that is not white and from which on the tokens are
--- those that the lexer had before it; with no token the place of the last one stays
+-- those that the lexer had before it; with no token the place of the last one stays, and there is none to come
 abbrev pub Begins : Lexer → Option Token → Lexer → Type 0
-Begins old None l = l .start ≡ old .start
+Begins old None l = (l .start ≡ old .start) × (rest l ≡ [])
 Begins old (Some t) l = (l .start < length (text-of l)) × (white (getD (text-of l) (l .start) 0) ≡ false) × (tokens (drop (l .start) (text-of l)) ≡ rest old)

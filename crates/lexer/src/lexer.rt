@@ -61,6 +61,7 @@ impl<'a> Lexer<'a> {
     pub fn new(text: &'a [u8]) -> Lexer<'a>
         ensures text { λ r. ⌜ text-of r ≡ now (text .entry) ⌝ }
         ensures rest { λ r. ⌜ rest r ≡ tokens (now (text .entry)) ⌝ }
+        ensures start { λ r. ⌜ r .start ≡ 0 ⌝ }
     {
         Lexer {
             text,

@@ -4,7 +4,7 @@ use Rattle.lexer.proofs.lexer.Lexer.next.Needs as need
 
 pub returns-then-start-text : need.returns-then-start-text
 returns-then-start-text c =
-    record { gives = sym (c .skip-white-start .ensures .same) ∙ next-none _ _ (c .if-start-text .taken); begins = refl; stays = refl }
+    record { gives = sym (c .skip-white-start .ensures .same) ∙ next-none _ _ (c .if-start-text .taken); begins = (refl, next-none _ _ (c .if-start-text .taken)); stays = refl }
 
 pub returns-then-byte-eq40 : need.returns-then-byte-eq40
 returns-then-byte-eq40 c =
