@@ -21,7 +21,7 @@ pub struct Report {
 }
 
 // What is said of a text.
-pub fn read_report(heap: Global, text: &[u8]) -> Result<Report, AnyError> {
+pub(crate) fn read_report(heap: Global, text: &[u8]) -> Result<Report, AnyError> {
     let mut program = Program::new();
     let mut brackets = [0u16; WORKING_PLACES];
     let lines = match read(text, &mut brackets, &mut program) {

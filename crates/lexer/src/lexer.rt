@@ -82,17 +82,28 @@ impl<'a> Lexer<'a> {
             self.pos = start;
             return None;
         }
-        self.start = start;
         let byte = text[start];
         if byte == b'(' {
-            self.pos = start + 1;
+            *self = Lexer {
+                text,
+                pos: start + 1,
+                start,
+            };
             Some(Token::Open)
         } else if byte == b')' {
-            self.pos = start + 1;
+            *self = Lexer {
+                text,
+                pos: start + 1,
+                start,
+            };
             Some(Token::Close)
         } else {
             let end = word_end(text, start);
-            self.pos = end;
+            *self = Lexer {
+                text,
+                pos: end,
+                start,
+            };
             Some(Token::Word(&text[start..end]))
         }
     }
