@@ -1,8 +1,17 @@
 // What is said of a text: the program in its standard form, or the refusal and where the wrong token stands.
+ghost use Rattle.guide.specs.Reports.{Refused-line, Told, accepted-lines, counts-line, refused-lines};
+ghost use Rattle.program.specs.Programs.{program-of};
+ghost use Rattle.std.specs.Of.String.{string-bytes};
+ghost use Rattle.std.specs.Vec.{made};
+ghost use Rattle.std.specs.declared.option.Option.the-variants.{None, Some};
+ghost use Rattle.grammar.specs.Reading.{parse};
+ghost use mathlib.Core.List.{_++_};
+ghost use mathlib.Core.Path.{_≡_};
 use codes::Refusal;
 use codes::RefusalDisplay;
 use printer::print;
 use program::Program;
+use reader::Position;
 use reader::ReadError;
 use reader::locate;
 use reader::read;
@@ -21,7 +30,9 @@ pub struct Report {
 }
 
 // What is said of a text.
-pub(crate) fn read_report(heap: Global, text: &[u8]) -> Result<Report, AnyError> {
+pub(crate) fn read_report(heap: Global, text: &[u8]) -> Result<Report, AnyError>
+    ensures { λ r. ⌜ made r (λ p. Told (now (text .entry)) (parse (now (text .entry))) p) ⌝ }
+{
     let mut program = Program::new();
     let mut brackets = [0u16; WORKING_PLACES];
     let lines = match read(text, &mut brackets, &mut program) {
@@ -38,47 +49,77 @@ pub(crate) fn read_report(heap: Global, text: &[u8]) -> Result<Report, AnyError>
 }
 
 // The program's text, and a line of its counts.
-fn standard_form(heap: Global, program: &Program) -> Result<String, AnyError> {
+fn standard_form(heap: Global, program: &Program) -> Result<String, AnyError>
+    ensures { λ r. ⌜ made r (λ s. string-bytes s ≡ accepted-lines (program-of (now (program .entry)))) ⌝ }
+{
     let mut chains = [0u16; WORKING_PLACES];
     let mut out = [0u8; MOST_BYTES];
     let Ok(len) = print(program, &mut chains, &mut out) else {
         return Err("the print does not fit".into());
     };
-    let Some(bytes) = out.get(0..len) else {
-        return Err("the print does not fit".into());
-    };
-    let text = from_utf8(bytes)?;
-    let parameters = program.parameters();
-    let commands = program.commands();
-    let sequences = program.sequences();
+    let text = from_utf8(&out[0..len])?;
     Ok(
-        format!(
+        with_counts(
             heap,
-            "{text}\nparameters {parameters}, commands {commands}, sequences {sequences}\n"
+            text,
+            program.parameters(),
+            program.commands(),
+            program.sequences(),
         )?,
     )
 }
 
+// A line, and a line of counts behind it.
+fn with_counts(
+    heap: Global,
+    line: &str,
+    parameters: u8,
+    commands: u16,
+    sequences: u16,
+) -> Result<String, AllocError>
+    ensures { λ r. ⌜ made r (λ s. string-bytes s ≡ now (line .entry) ++ counts-line parameters commands sequences) ⌝ }
+{
+    format!(
+        heap,
+        "{line}\nparameters {parameters}, commands {commands}, sequences {sequences}\n"
+    )
+}
+
 // The refusal, where the wrong token stands if one is to blame, and what is wrong with it.
-fn refusal(heap: Global, text: &[u8], error: ReadError) -> Result<String, AllocError> {
-    let code = error.refusal;
-    let reason = if text.is_empty() {
+fn refusal(heap: Global, text: &[u8], error: ReadError) -> Result<String, AllocError>
+    ensures { λ r. ⌜ made r (λ s. Refused-line (now (text .entry)) error (string-bytes s)) ⌝ }
+{
+    let remark = if text.is_empty() {
         "the text is empty"
     } else {
         reason(error)
     };
     match error.at {
-        Some(at) => {
-            let here = locate(text, at);
-            let line = here.line;
-            let column = here.column;
-            format!(
-                heap,
-                "refused {code} at line {line}, column {column}: {reason}\n"
-            )
-        }
-        None => format!(heap, "refused {code}: {reason}\n"),
+        Some(at) => line_with_place(heap, error.refusal, locate(text, at), remark),
+        None => line_without_place(heap, error.refusal, remark),
     }
+}
+
+fn line_with_place(
+    heap: Global,
+    code: Refusal,
+    here: Position,
+    remark: &str,
+) -> Result<String, AllocError>
+    ensures { λ r. ⌜ made r (λ s. string-bytes s ≡ refused-lines code (Some here) (now (remark .entry))) ⌝ }
+{
+    let line = here.line;
+    let column = here.column;
+    format!(
+        heap,
+        "refused {code} at line {line}, column {column}: {remark}\n"
+    )
+}
+
+fn line_without_place(heap: Global, code: Refusal, remark: &str) -> Result<String, AllocError>
+    ensures { λ r. ⌜ made r (λ s. string-bytes s ≡ refused-lines code None (now (remark .entry))) ⌝ }
+{
+    format!(heap, "refused {code}: {remark}\n")
 }
 
 // What is wrong, in words.
