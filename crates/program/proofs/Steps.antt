@@ -28,12 +28,13 @@ use Rattle.layout.specs.declared.Place.{Place}
 use Rattle.layout.specs.declared.Table.{Table}
 use Rattle.layout.specs.Tables.{table-places, place, vacant, tree, source-of, whole}
 use Rattle.arithmetic.specs.Numbers.{in-range}
+use Rattle.layout.specs.declared.Command.{Command}
 use Rattle.layout.specs.declared.Command.the-variants.{Numeral, Name, Sequence}
 use Rattle.layout.specs.Drafts.{inner, outer, drafted, holds-draft, placed}
 use Rattle.syntax.proofs.Growing.{sequences-so-far-le}
 use Rattle.layout.proofs.Building.{Held, used-is, used-in, counted-is, depth-is, last-in, open-in, add-numeral, add-name, add-open, add-close, finish, fresh}
 use Rattle.program.specs.declared.builder.Builder.{Builder}
-use Rattle.program.specs.Building.{working, refusal-of, lacks, within, offered, answer, draft-after, Took, completed}
+use Rattle.program.specs.Building.{plain, event-of, working, refusal-of, lacks, within, offered, answer, draft-after, Took, completed}
 
 -- an event that leads on, with memory enough
 leads-on : (e : Event) (d f : Draft) (n : ℕ) → feed e d ≡ Some f → lacks e d n ≡ false → offered e d n ≡ Ok f
@@ -112,34 +113,59 @@ pub both-in : (b : Builder) → b .used < table-places → (b .last < table-plac
 both-in b l = (omega (arith, last-below b), l)
 
 module _ (b : Builder) (k : ℤ) where
-  pub numeral-kept : (qs : List Place) → qs ≡ placed (b .places) (b .last) (b .used) (Numeral k) → b .used < table-places → in-range k ≡ true
+  numeral-kept : (qs : List Place) → qs ≡ placed (b .places) (b .last) (b .used) (Numeral k) → b .used < table-places → in-range k ≡ true
       → Held qs (b .used + 1) (b .used) (b .sequences) (held (now (b .opens))) (draft (append (inner (b .places) (b .used) (held (now (b .opens)))) (numeral k end)) (outer (b .places) (held (now (b .opens)))))
   numeral-kept qs same l r =
       subst (λ (x : List Place). Held x (b .used + 1) (b .used) (b .sequences) (held (now (b .opens))) (draft (append (inner (b .places) (b .used) (held (now (b .opens)))) (numeral k end)) (outer (b .places) (held (now (b .opens))))))
       (sym same) (add-numeral (b .places) (b .used) (b .last) (b .sequences) (held (now (b .opens))) (b .sound) k l r)
 
-  pub numeral-taken : (d : Builder) → Stays b d → b .used < table-places → working d ≡ draft (append (inner (b .places) (b .used) (held (now (b .opens)))) (numeral k end)) (outer (b .places) (held (now (b .opens)))) → Took (NumeralEvent k) b d (Ok tt)
+  numeral-taken : (d : Builder) → Stays b d → b .used < table-places → working d ≡ draft (append (inner (b .places) (b .used) (held (now (b .opens)))) (numeral k end)) (outer (b .places) (held (now (b .opens)))) → Took (NumeralEvent k) b d (Ok tt)
   numeral-taken d s l w = took (NumeralEvent k) b d (draft (append (inner (b .places) (b .used) (held (now (b .opens)))) (numeral k end)) (outer (b .places) (held (now (b .opens))))) s
       (leads-on (NumeralEvent k) (working b) (draft (append (inner (b .places) (b .used) (held (now (b .opens)))) (numeral k end)) (outer (b .places) (held (now (b .opens))))) (room (now (b .opens))) (admitted b _ l) refl) w
 
-  pub numeral-refused : table-places ≤ b .used → Took (NumeralEvent k) b b (Err Crowd)
+  numeral-refused : table-places ≤ b .used → Took (NumeralEvent k) b b (Err Crowd)
   numeral-refused l = refused (NumeralEvent k) b b Crowd (unmoved b) (leads-nowhere (NumeralEvent k) (working b) (room (now (b .opens))) (full b (draft (append (inner (b .places) (b .used) (held (now (b .opens)))) (numeral k end)) (outer (b .places) (held (now (b .opens))))) l)) refl
 
 -- a name
 
 module _ (b : Builder) (o : CommandName) where
-  pub name-kept : (qs : List Place) → qs ≡ placed (b .places) (b .last) (b .used) (Name o) → b .used < table-places
+  name-kept : (qs : List Place) → qs ≡ placed (b .places) (b .last) (b .used) (Name o) → b .used < table-places
       → Held qs (b .used + 1) (b .used) (b .sequences) (held (now (b .opens))) (draft (append (inner (b .places) (b .used) (held (now (b .opens)))) (name-then o end)) (outer (b .places) (held (now (b .opens)))))
   name-kept qs same l =
       subst (λ (x : List Place). Held x (b .used + 1) (b .used) (b .sequences) (held (now (b .opens))) (draft (append (inner (b .places) (b .used) (held (now (b .opens)))) (name-then o end)) (outer (b .places) (held (now (b .opens))))))
       (sym same) (add-name (b .places) (b .used) (b .last) (b .sequences) (held (now (b .opens))) (b .sound) o l)
 
-  pub name-taken : (d : Builder) → Stays b d → b .used < table-places → working d ≡ draft (append (inner (b .places) (b .used) (held (now (b .opens)))) (name-then o end)) (outer (b .places) (held (now (b .opens)))) → Took (NameEvent o) b d (Ok tt)
+  name-taken : (d : Builder) → Stays b d → b .used < table-places → working d ≡ draft (append (inner (b .places) (b .used) (held (now (b .opens)))) (name-then o end)) (outer (b .places) (held (now (b .opens)))) → Took (NameEvent o) b d (Ok tt)
   name-taken d s l w = took (NameEvent o) b d (draft (append (inner (b .places) (b .used) (held (now (b .opens)))) (name-then o end)) (outer (b .places) (held (now (b .opens))))) s
       (leads-on (NameEvent o) (working b) (draft (append (inner (b .places) (b .used) (held (now (b .opens)))) (name-then o end)) (outer (b .places) (held (now (b .opens))))) (room (now (b .opens))) (admitted b _ l) refl) w
 
-  pub name-refused : table-places ≤ b .used → Took (NameEvent o) b b (Err Crowd)
+  name-refused : table-places ≤ b .used → Took (NameEvent o) b b (Err Crowd)
   name-refused l = refused (NameEvent o) b b Crowd (unmoved b) (leads-nowhere (NameEvent o) (working b) (room (now (b .opens))) (full b (draft (append (inner (b .places) (b .used) (held (now (b .opens)))) (name-then o end)) (outer (b .places) (held (now (b .opens))))) l)) refl
+
+-- either
+
+abbrev pub grown : Builder → Command → Draft
+grown b (Numeral k) = draft (append (inner (b .places) (b .used) (held (now (b .opens)))) (numeral k end)) (outer (b .places) (held (now (b .opens))))
+grown b (Name o) = draft (append (inner (b .places) (b .used) (held (now (b .opens)))) (name-then o end)) (outer (b .places) (held (now (b .opens))))
+grown b (Sequence f) = working b
+
+no-sequence : {A : Type 0} → false ≡ true → A
+no-sequence e = let z : _≡_ {A = ℕ} 0 1 = cc in absurd (omega arith)
+
+pub plain-kept : (b : Builder) (c : Command) (qs : List Place) → plain c ≡ true → qs ≡ placed (b .places) (b .last) (b .used) c → b .used < table-places → Held qs (b .used + 1) (b .used) (b .sequences) (held (now (b .opens))) (grown b c)
+plain-kept b (Numeral k) qs p same l = numeral-kept b k qs same l p
+plain-kept b (Name o) qs p same l = name-kept b o qs same l
+plain-kept b (Sequence f) qs p same l = no-sequence p
+
+pub plain-taken : (b d : Builder) (c : Command) → plain c ≡ true → Stays b d → b .used < table-places → working d ≡ grown b c → Took (event-of c) b d (Ok tt)
+plain-taken b d (Numeral k) p s l w = numeral-taken b k d s l w
+plain-taken b d (Name o) p s l w = name-taken b o d s l w
+plain-taken b d (Sequence f) p s l w = no-sequence p
+
+pub plain-refused : (b : Builder) (c : Command) → plain c ≡ true → table-places ≤ b .used → Took (event-of c) b b (Err Crowd)
+plain-refused b (Numeral k) p l = numeral-refused b k l
+plain-refused b (Name o) p l = name-refused b o l
+plain-refused b (Sequence f) p l = no-sequence p
 
 -- a bracket that opens
 

@@ -1,6 +1,6 @@
 -- What a builder answers to an event, and what it holds then.
 use mathlib.Core.Path.{_≡_}
-use mathlib.Core.Bool.{Bool, false, cond}
+use mathlib.Core.Bool.{Bool, true, false, cond}
 use mathlib.Core.List.{List}
 use Prim.Native.Nat.{ℕ}
 use lib.Dec.{leb}
@@ -16,11 +16,26 @@ use Rattle.syntax.specs.declared.Event.{Event}
 use Rattle.syntax.specs.declared.Event.the-variants.{Numeral, Name, Open, Close}
 use Rattle.syntax.specs.Code.{Code, Source, source}
 use Rattle.syntax.specs.Events.{Draft, depth, feed, finished}
+use Rattle.arithmetic.specs.Numbers.{in-range}
+use Rattle.layout.specs.declared.Command.{Command}
+use Rattle.layout.specs.declared.Command.the-variants.{Numeral as NumeralCommand, Name as NameCommand, Sequence as SequenceCommand}
 use Rattle.layout.specs.Drafts.{drafted}
 use Rattle.program.specs.declared.arity.Arity.{Arity}
 use Rattle.program.specs.declared.builder.Builder.{Builder}
 use Rattle.program.specs.declared.record.Program.{Program}
 use Rattle.program.specs.Programs.{program-of}
+
+-- a numeral of the language, or a name
+abbrev pub plain : Command → Bool
+plain (NumeralCommand k) = in-range k
+plain (NameCommand o) = true
+plain (SequenceCommand f) = false
+
+-- the event of such a command; a sequence begins by its bracket
+abbrev pub event-of : Command → Event
+event-of (NumeralCommand k) = Numeral k
+event-of (NameCommand o) = Name o
+event-of (SequenceCommand f) = Open
 
 -- the draft that a builder holds
 abbrev pub working : Builder → Draft

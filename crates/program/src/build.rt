@@ -2,11 +2,12 @@
 ghost use Prim.Native.Nat.{_+_, _<_};
 ghost use Rattle.layout.specs.Drafts.{placed};
 ghost use Rattle.layout.specs.Tables.{table-places};
-ghost use Rattle.program.specs.Building.{Took, completed, program-if, working};
+ghost use Rattle.program.specs.Building.{Took, completed, event-of, plain, program-if, working};
 ghost use Rattle.stack.specs.Held.{room};
 ghost use Rattle.syntax.specs.Events.{blank, finished};
 ghost use denote.Ref.{name};
 ghost use lib.ListN.{length};
+ghost use mathlib.Core.Bool.{true};
 ghost use mathlib.Core.Path.{_≡_};
 use super::arity::Arity;
 use super::builder::Builder;
@@ -18,7 +19,6 @@ use layout::Place;
 use layout::Table;
 use stack::Stack;
 use syntax::Event;
-use syntax::Name;
 
 impl<'a, 'b> Builder<'a, 'b> {
     // A builder of a program with so many parameters, which keeps its open brackets on the lent stack.
@@ -49,34 +49,23 @@ impl<'a, 'b> Builder<'a, 'b> {
         ensures { λ r. ⌜ Took event (now (self .entry)) (now (self .exit)) r ⌝ }
     {
         match event {
-            Event::Numeral(k) => self.numeral(k),
-            Event::Name(o) => self.name(o),
+            Event::Numeral(k) => self.append(Command::Numeral(k)),
+            Event::Name(o) => self.append(Command::Name(o)),
             Event::Open => self.open(),
             Event::Close => self.close(),
         }
     }
 
-    fn numeral(&mut self, k: i32) -> Result<(), Refusal>
-        ensures { λ r. ⌜ Took (Event.Numeral k) (now (self .entry)) (now (self .exit)) r ⌝ }
+    // One more command at the end of the innermost chain, a numeral or a name.
+    fn append(&mut self, command: Command) -> Result<(), Refusal>
+        requires { ⌜ plain command ≡ true ⌝ }
+        ensures { λ r. ⌜ Took (event-of command) (now (self .entry)) (now (self .exit)) r ⌝ }
     {
         let at = self.used;
         if at as usize >= PLACES {
             return Err(Refusal::Crowd);
         }
-        put(&mut self.places, self.last, at, Command::Numeral(k));
-        self.last = at;
-        self.used = at + 1;
-        Ok(())
-    }
-
-    fn name(&mut self, o: Name) -> Result<(), Refusal>
-        ensures { λ r. ⌜ Took (Event.Name o) (now (self .entry)) (now (self .exit)) r ⌝ }
-    {
-        let at = self.used;
-        if at as usize >= PLACES {
-            return Err(Refusal::Crowd);
-        }
-        put(&mut self.places, self.last, at, Command::Name(o));
+        put(&mut self.places, self.last, at, command);
         self.last = at;
         self.used = at + 1;
         Ok(())
