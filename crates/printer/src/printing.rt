@@ -10,6 +10,7 @@ ghost use Rattle.std.specs.declared.result.Result.the-variants.{Ok};
 ghost use Rattle.syntax.specs.Bounds.{most-bytes, most-commands, most-parameters};
 ghost use Rattle.syntax.specs.Events.{events};
 ghost use Rattle.printer.specs.Printed.{bytes-after, print-answer};
+ghost use Rattle.printer.specs.Records.{Every-record-reads-back};
 ghost use Rattle.printer.specs.Writing.{Wrote, ending, heading, close-behind, written};
 ghost use lib.ListN.{length, take};
 ghost use mathlib.Core.Bool.{false};
@@ -43,6 +44,11 @@ pub fn print(program: &Program, chains: &mut [u16], out: &mut [u8]) -> Result<us
     }
     spell(program, chains, out)
 }
+
+// The print of every program record is short enough to be read, and reads back as that program.
+pub fn every_record_reads_back()
+    ensures { λ _. ⌜ Every-record-reads-back ⌝ }
+{}
 
 // Writes the program's text from the front of `out` on, as far as there is room, and says how long it is.
 fn spell(program: &Program, chains: &mut [u16], out: &mut [u8]) -> Result<usize, Refusal>
