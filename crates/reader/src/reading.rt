@@ -39,7 +39,8 @@ enum Turn {
     Ends,
 }
 
-// Reads the text into the record. A refusal leaves the record as it was.
+// Reads the text into the record. Refused are, in this order: lent memory of too few places, a text of too many bytes, and
+// then the first wrong token from the left. A refusal leaves the record as it was.
 pub fn read(text: &[u8], brackets: &mut [u16], into: &mut Program) -> Result<(), ReadError>
     ensures reads { λ r. ⌜ ReadAs (length (now (brackets .entry))) (now (text .entry)) (now (into .entry)) (now (into .exit)) r ⌝ }
     ensures exactly { λ r. ⌜ Exactly (length (now (brackets .entry))) (now (text .entry)) (now (into .exit)) r ⌝ }

@@ -1,4 +1,5 @@
 // What a program is made of: thirteen names, and what stands in its text one after the other.
+ghost use Rattle.syntax.specs.Laws.{Events-make-the-program, Events-tell-programs-apart};
 
 // How many commands a program may have, inner ones counted.
 pub const MOST_COMMANDS: usize = 255;
@@ -44,3 +45,13 @@ pub enum Event {
     Open,
     Close,
 }
+
+// A program's events, taken one after the other, make the program.
+pub fn events_make_the_program()
+    ensures { λ _. ⌜ Events-make-the-program ⌝ }
+{}
+
+// Two programs with the same events are one.
+pub fn events_tell_programs_apart()
+    ensures { λ _. ⌜ Events-tell-programs-apart ⌝ }
+{}
