@@ -1,4 +1,6 @@
 // Numbers of 32 bits.
+#![tactic(auto)]
+
 ghost use Rattle.arithmetic.specs.Laws.{ReductionIsResidue, ReductionKeepsNumbers, OperationsAreResidues, OperationsStayInRange};
 ghost use Rattle.arithmetic.specs.Laws.{SumsRegroup, DifferencesRegroup, ProductsRegroup, SumsCommute, ProductsCommute};
 ghost use Rattle.arithmetic.specs.Laws.{DivisionsAreExact, LeastByMinusOne};

@@ -1,4 +1,6 @@
 // The closed lists of refusals and faults.
+#![tactic(auto)]
+
 ghost use Rattle.codes.specs.Codes.{CodesApart};
 
 mod faults;

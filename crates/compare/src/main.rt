@@ -1,4 +1,6 @@
 // Programs and damaged texts from a seed, put to the toolkit and to a second reader and interpreter of another make.
+#![tactic(auto)]
+
 mod answer;
 mod damage;
 mod dice;

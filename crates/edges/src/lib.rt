@@ -1,4 +1,6 @@
 // Reading, printing and running at the edges of what is allowed, by cases.
+#![tactic(auto)]
+
 #[cfg(test)]
 mod lengths;
 #[cfg(test)]

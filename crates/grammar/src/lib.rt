@@ -1,4 +1,6 @@
 // The language's grammar, and what reading and printing promise: theorems alone, which other crates cite.
+#![tactic(auto)]
+
 ghost use Rattle.grammar.specs.Tokens.{TokensAreLongestRuns};
 ghost use Rattle.grammar.specs.Grammar.{AcceptsTheGrammar, RefusesAtTheFirstWrongToken, PrintReadsBack, PrintReadsBackInEnoughPlaces, PrintIsShort, ReadingIsBounded, OneReading, PrintsDiffer};
 

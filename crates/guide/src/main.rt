@@ -1,4 +1,6 @@
 // The program that people run: a command line over the toolkit.
+#![tactic(auto)]
+
 mod arguments;
 mod input;
 mod outcome;

@@ -1,4 +1,6 @@
 // Running a program over its record: values on one lent stack, unfinished chains on another.
+#![tactic(auto)]
+
 mod running;
 mod turning;
 

@@ -1,4 +1,6 @@
 // A table of places in which a program's commands lie, chained by links.
+#![tactic(auto)]
+
 use syntax::{MOST_COMMANDS, Name};
 
 // The head, and a place for each command that a program may have.

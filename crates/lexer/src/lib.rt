@@ -1,4 +1,6 @@
 // A text's tokens, and what the words among them are.
+#![tactic(auto)]
+
 mod lexer;
 mod words;
 

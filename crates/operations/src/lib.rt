@@ -1,4 +1,6 @@
 // What names do to a stack of values: the step that every machine shares.
+#![tactic(auto)]
+
 ghost use Rattle.operations.specs.Acting.{answer_of, left_by};
 ghost use Rattle.semantics.specs.Commands.{act};
 ghost use Rattle.semantics.specs.Meaning.{result as outcome-of};

@@ -1,5 +1,7 @@
 // The program record, and the two ways in and out of it: a builder that takes events in the order of the text, and a walker
 // that gives them.
+#![tactic(auto)]
+
 mod arity;
 mod build;
 mod builder;

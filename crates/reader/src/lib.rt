@@ -1,4 +1,6 @@
 // Reading a program from a text, and telling where a text is wrong.
+#![tactic(auto)]
+
 mod place;
 mod reading;
 

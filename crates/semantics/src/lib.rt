@@ -1,5 +1,7 @@
 // What programs mean: values, what each command does to a stack of them, and what a run gives and spends. Definitions, and
 // theorems that other crates cite.
+#![tactic(auto)]
+
 ghost use Rattle.semantics.specs.Laws.{Compositional, EveryRunEnds, ExecRunsContents, OneValuation, StaysInRange, StepsWithinCommands};
 
 use codes::Fault;

@@ -1,4 +1,6 @@
 // A stack of any copied values over places that are lent to it.
+#![tactic(auto)]
+
 ghost use Rattle.std.specs.Prelude.{◌≤◌, length};
 
 mod change;

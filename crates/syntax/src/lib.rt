@@ -1,4 +1,6 @@
 // What a program is made of: thirteen names, and what stands in its text one after the other.
+#![tactic(auto)]
+
 ghost use Rattle.syntax.specs.Laws.{EventsMakeTheProgram, EventsTellProgramsApart};
 
 // How many commands a program may have, inner ones counted.
