@@ -17,8 +17,8 @@ returns c =
     let ta = to_z-of_z w32 c.args.a c.ranges.a in
     let tb = to_z-of_z w32 c.args.b c.ranges.b in
     let q : to_z w32 (of_z w32 c.wrapping_div.result) ≡ quotient c.args.a c.args.b =
-    to_z-of_z w32 c.wrapping_div.result (record { sfits = c.wrapping_div.type-inv }) ∙ c.wrapping_div.ensures
+    to_z-of_z w32 c.wrapping_div.result (record { sfits = c.wrapping_div.type_inv }) ∙ c.wrapping_div.ensures
     ∙ (λ i. to_z w32 (of_z w32 (quot_z (ta i) (tb i)))) ∙ sym (quotient_bits c.args.a c.args.b c.ranges.a) in
     let r : to_z w32 (of_z w32 c.wrapping_rem.result) ≡ remainder c.args.a c.args.b =
-    to_z-of_z w32 c.wrapping_rem.result (record { sfits = c.wrapping_rem.type-inv }) ∙ c.wrapping_rem.ensures ∙ (λ i. rem_z (ta i) (tb i)) in
+    to_z-of_z w32 c.wrapping_rem.result (record { sfits = c.wrapping_rem.type_inv }) ∙ c.wrapping_rem.ensures ∙ (λ i. rem_z (ta i) (tb i)) in
     (λ i. Ok (q i, r i)) ∙ sym (divided_by_nonzero c.args.a c.args.b n)

@@ -8,16 +8,16 @@ loop-index-init c = none_collected (map string_bytes c.args.words.now) (vec_item
 pub loop-index-preserved : goal.loop-index-preserved
 loop-index-preserved c =
     let f : SFits w32 c.in-Ok.number = search rules in
-    one_collected (map string_bytes c.args.words.now) (vec_items c.loop-index.numbers) (vec_items c.push.new.self) c.loop-index.index c.as-bytes.result.now c.in-Ok.number f
+    one_collected (map string_bytes c.args.words.now) (vec_items c.loop-index.numbers) (vec_items c.push.new.self) c.loop-index.index c.as_bytes.result.now c.in-Ok.number f
     (within-map string_bytes c.args.words.now c.loop-index.index c.loop-index-test.true)
-    (bytes-at string_bytes c.args.words.now c.loop-index.index c.index-words-index.result c.as-bytes.result.now c.loop-index-test.true c.index-words-index.is c.as-bytes.ensures.value)
-    c.in-Ok.ensures c.in-ok-push.ensures.items c.loop-index.invariant
+    (bytes-at string_bytes c.args.words.now c.loop-index.index c.index-words-index.result c.as_bytes.result.now c.loop-index-test.true c.index-words-index.is c.as_bytes.ensures.value)
+    c.in-Ok.ensures c.in_ok-push.ensures.items c.loop-index.invariant
 
 pub returns-in-Err : goal.returns-in-Err
 returns-in-Err c =
-    wrong_one (map string_bytes c.args.words.now) (vec_items c.loop-index.numbers) c.loop-index.index c.as-bytes.result.now c.in-Err.refusal
+    wrong_one (map string_bytes c.args.words.now) (vec_items c.loop-index.numbers) c.loop-index.index c.as_bytes.result.now c.in-Err.refusal
     (within-map string_bytes c.args.words.now c.loop-index.index c.loop-index-test.true)
-    (bytes-at string_bytes c.args.words.now c.loop-index.index c.index-words-index.result c.as-bytes.result.now c.loop-index-test.true c.index-words-index.is c.as-bytes.ensures.value)
+    (bytes-at string_bytes c.args.words.now c.loop-index.index c.index-words-index.result c.as_bytes.result.now c.loop-index-test.true c.index-words-index.is c.as_bytes.ensures.value)
     c.in-Err.ensures c.loop-index.invariant
 
 pub returns : goal.returns

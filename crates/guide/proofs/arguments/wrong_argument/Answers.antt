@@ -5,6 +5,6 @@ use Rattle.guide.proofs.arguments.wrong_argument.Goals as goal
 
 pub returns : goal.returns
 returns c =
-    IfOk-weaker c.line-with-remark.result (λ s. string_bytes s ≡ wrong_line c.args.wrong c.match-wrong.remark.now) (λ s. (remark : List ℕ) × (string_bytes s ≡ wrong_line c.args.wrong remark))
+    IfOk-weaker c.line_with_remark.result (λ s. string_bytes s ≡ wrong_line c.args.wrong c.match-wrong.remark.now) (λ s. (remark : List ℕ) × (string_bytes s ≡ wrong_line c.args.wrong remark))
     (λ s e. (c.match-wrong.remark.now, e))
-    c.line-with-remark.ensures
+    c.line_with_remark.ensures

@@ -6,15 +6,15 @@ use Rattle.interpreter.proofs.running.run.Goals as goal
 
 pub returns-then-arguments-parameters : goal.returns-then-arguments-parameters
 returns-then-arguments-parameters c =
-    let v = c.if-values-lt-WORKING-PLACES.false in
-    let w = c.if-chains-lt-WORKING-PLACES.false in
+    let v = c.if-values-lt-WORKING_PLACES.false in
+    let w = c.if-chains-lt-WORKING_PLACES.false in
     answers-wrong_count (length c.args.values.now) (length c.args.chains.now) c.args.program.now.table.parameters (tree_of c.args.program.now) c.args.arguments.now (omega arith) (omega arith)
     (λ e. c.if-arguments-parameters.true (e ∙ sym c.parameters.ensures))
 
-pub run-commands-requires : goal.run-commands-requires
-run-commands-requires c =
-    let v = c.if-values-lt-WORKING-PLACES.false in
-    let w = c.if-chains-lt-WORKING-PLACES.false in
+pub run_commands-requires : goal.run_commands-requires
+run_commands-requires c =
+    let v = c.if-values-lt-WORKING_PLACES.false in
+    let w = c.if-chains-lt-WORKING_PLACES.false in
     let n = c.if-arguments-parameters.false in
     let m = c.parameters.ensures in
     let few = (parts_of c.args.program.now.table c.args.program.now.whole).parameters in
@@ -22,7 +22,7 @@ run-commands-requires c =
 
 pub returns : goal.returns
 returns c =
-    let v = c.if-values-lt-WORKING-PLACES.false in
-    let w = c.if-chains-lt-WORKING-PLACES.false in
-    answers_course (length c.args.values.now) (length c.args.chains.now) c.args.program.now.table.parameters (tree_of c.args.program.now) c.args.arguments.now c.run-commands.result (omega arith) (omega arith)
-    (c.if-arguments-parameters.false ∙ c.parameters.ensures) c.run-commands.ensures
+    let v = c.if-values-lt-WORKING_PLACES.false in
+    let w = c.if-chains-lt-WORKING_PLACES.false in
+    answers_course (length c.args.values.now) (length c.args.chains.now) c.args.program.now.table.parameters (tree_of c.args.program.now) c.args.arguments.now c.run_commands.result (omega arith) (omega arith)
+    (c.if-arguments-parameters.false ∙ c.parameters.ensures) c.run_commands.ensures

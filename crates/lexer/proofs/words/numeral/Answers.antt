@@ -9,9 +9,9 @@ use Rattle.lexer.proofs.words.numeral.Goals.{else-word-gt0-via-then-word-gt0+els
 
 pub returns-in-Some : goal.returns-in-Some
 returns-in-Some c =
-    reads_minus c.args.word.now c.in-Some.all c.below-zero.result c.if-word-gt0.true c.if-word-eq45.true
+    reads_minus c.args.word.now c.in-Some.all c.below_zero.result c.if-word-gt0.true c.if-word-eq45.true
     (subst (λ (w : List ℕ). Digits w (Some c.in-Some.all)) (take_rest c.args.word.now 1) c.in-Some.ensures)
-    c.below-zero.ensures
+    c.below_zero.ensures
 
 pub returns-in-None : goal.returns-in-None
 returns-in-None c =
@@ -19,7 +19,7 @@ returns-in-None c =
 
 pub returns-in-Some-digits : goal.returns-in-Some-digits
 returns-in-Some-digits c =
-    reads_plain c.args.word.now c.in-Some-digits.all c.above-zero.result c.in-Some-digits.ensures c.above-zero.ensures
+    reads_plain c.args.word.now c.in-Some-digits.all c.above_zero.result c.in-Some-digits.ensures c.above_zero.ensures
 
 pub returns-in-None-digits : goal.returns-in-None-digits
 returns-in-None-digits c =

@@ -12,14 +12,14 @@ use Rattle.operations.proofs.commands.operate.Goals as goal
 
 pub returns : goal.returns
 returns c =
-    let first = sym c.get.ensures ∙ c.in-ok-first.ensures.ok-part in
-    let second = sym c.get-2.ensures ∙ c.in-ok-second.ensures.ok-part in
-    let a : SFits w32 c.in-ok-left.left = search rules in
-    let b : SFits w32 c.in-ok-right.right = search rules in
-    let k : SFits w32 c.in-ok-result.result = search rules in
-    let gives = c.in-ok-result.ensures ∙ (λ i. compute c.args.operator (to_z-of_z w32 c.in-ok-left.left a i) (to_z-of_z w32 c.in-ok-right.right b i)) in
-    let e = operated c.args.operator (held c.args.values.now) _ _ _ _ _ first second (sym c.in-ok-right.ensures) (sym c.in-ok-left.ensures) (sym gives) in
-    let bits = ap (λ z. next (Numeral z ∷ tail_of (tail_of (held c.args.values.now)))) (to_z-of_z w32 c.in-ok-result.result k) in
+    let first = sym c.get.ensures ∙ c.in_ok-first.ensures.ok-part in
+    let second = sym c.get-2.ensures ∙ c.in_ok-second.ensures.ok-part in
+    let a : SFits w32 c.in_ok-left.left = search rules in
+    let b : SFits w32 c.in_ok-right.right = search rules in
+    let k : SFits w32 c.in_ok-result.result = search rules in
+    let gives = c.in_ok-result.ensures ∙ (λ i. compute c.args.operator (to_z-of_z w32 c.in_ok-left.left a i) (to_z-of_z w32 c.in_ok-right.right b i)) in
+    let e = operated c.args.operator (held c.args.values.now) _ _ _ _ _ first second (sym c.in_ok-right.ensures) (sym c.in_ok-left.ensures) (sym gives) in
+    let bits = ap (λ z. next (Numeral z ∷ tail_of (tail_of (held c.args.values.now)))) (to_z-of_z w32 c.in_ok-result.result k) in
     let p = c.pop.ensures in
     let q = c.pop-2.ensures in
     let r = c.push.ensures in

@@ -9,8 +9,8 @@ pub returns : goal.returns
 returns c =
     let once = c.spell.ensures in
     let twice = c.spell-2.ensures in
-    let was = c.in-ok-len.was in
-    let measured : c.in-ok-len.len ≡ length (print (source_of c.args.program.now.table)) = cc in
+    let was = c.in_ok-len.was in
+    let measured : c.in_ok-len.len ≡ length (print (source_of c.args.program.now.table)) = cc in
     let fits : length (print (source_of c.args.program.now.table)) ≤ length c.args.out.now = omega arith in
     record {
       answer = twice.answer ∙ answer_fits _ _ _ (omega arith) fits;

@@ -8,8 +8,8 @@ returns-then-at-ge-PLACES c = plain-refused c.args.self.now c.args.command c.req
 pub put-requires : goal.put-requires
 put-requires c = both_in c.args.self.now c.if-at-ge-PLACES.false
 
-pub invariant-of-self : goal.invariant-of-self
-invariant-of-self c = ((plain_kept c.args.self.now c.args.command c.put.new.places c.requires c.put.ensures c.if-at-ge-PLACES.false).kept, tt)
+pub invariant_of-self : goal.invariant_of-self
+invariant_of-self c = ((plain_kept c.args.self.now c.args.command c.put.new.places c.requires c.put.ensures c.if-at-ge-PLACES.false).kept, tt)
 
 pub returns : goal.returns
 returns c =

@@ -8,14 +8,14 @@ use Rattle.program.proofs.builder.Builder.close.Goals.{then-self-at, else-self-a
 top : (c : goal.In-Some) → held c.args.self.now.opens.now ≡ c.in-Some.at ∷ tail_of (held c.args.self.now.opens.now)
 top c = cons_of (held c.args.self.now.opens.now) c.in-Some.at (sym c.in-Some.is ∙ c.pop.ensures.top)
 
-pub overflow-add-at : goal.overflow-add-at
-overflow-add-at c =
+pub overflow_add-at : goal.overflow_add-at
+overflow_add-at c =
     let l = close_in c.args.self.now c.in-Some.at (tail_of (held c.args.self.now.opens.now)) (top c) in
     let s = sequences_in c.args.self.now in
     record { fits = omega arith }
 
-pub overflow-add-first : goal.overflow-add-first
-overflow-add-first c =
+pub overflow_add-first : goal.overflow_add-first
+overflow_add-first c =
     let e = cons_of (held c.args.self.now.opens.now) c.in-Some.at (sym c.in-Some.is ∙ c.pop.ensures.top) in
     let l = close_in c.args.self.now c.in-Some.at (tail_of (held c.args.self.now.opens.now)) e in
     let s = sequences_in c.args.self.now in
@@ -28,8 +28,8 @@ bounds-self-at c =
     let s = sequences_in c.args.self.now in
     omega arith
 
-pub invariant-of-self-2 : goal.invariant-of-self-2
-invariant-of-self-2 c =
+pub invariant_of-self-2 : goal.invariant_of-self-2
+invariant_of-self-2 c =
     let e = cons_of (held c.args.self.now.opens.now) c.in-Some.at (sym c.in-Some.is ∙ c.pop.ensures.top) in (
       (close_kept c.args.self.now c.in-Some.at (tail_of (held c.args.self.now.opens.now)) e c.if-self-at.first (held c.pop.new.self) c.pop.ensures.rest
           (λ h. elim c.if-self-at.branch [ then-self-at w ↦ w.first-is | else-self-at w ↦ absurd (w.if-self-at.false h) ])

@@ -4,11 +4,11 @@ use Rattle.program.proofs.Steps.{used_pos, finishes}
 use Rattle.program.proofs.builder.Builder.finish.Goals as goal
 use Rattle.program.proofs.builder.Builder.finish.Goals.{then-self-eq1, else-self-eq1}
 
-pub overflow-sub-table : goal.overflow-sub-table
-overflow-sub-table c = used_pos c.args.self.now
+pub overflow_sub-table : goal.overflow_sub-table
+overflow_sub-table c = used_pos c.args.self.now
 
-pub invariant-of-result : goal.invariant-of-result
-invariant-of-result c =
+pub invariant_of-result : goal.invariant_of-result
+invariant_of-result c =
     let l : length (held c.args.self.now.opens.now) ≤ 0 = let e = c.len.ensures in let h = c.if-len-gt0.false in omega arith in (
       (finishes c.args.self.now c.if-self-eq1.first _ l
           (λ h. elim c.if-self-eq1.branch [ then-self-eq1 w ↦ w.first-is | else-self-eq1 w ↦ absurd (w.if-self-eq1.false h) ])

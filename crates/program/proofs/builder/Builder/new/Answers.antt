@@ -3,8 +3,8 @@ use Rattle.stack.specs.Held.{held}
 use Rattle.program.proofs.Steps.{fresh_kept}
 use Rattle.program.proofs.builder.Builder.new.Goals as goal
 
-pub invariant-of-result : goal.invariant-of-result
-invariant-of-result c = ((fresh_kept (held c.clear.new.self) c.clear.ensures.none).kept, tt)
+pub invariant_of-result : goal.invariant_of-result
+invariant_of-result c = ((fresh_kept (held c.clear.new.self) c.clear.ensures.none).kept, tt)
 
 pub returns : goal.returns
 returns c =

@@ -17,14 +17,14 @@ returns-then-not-push c =
 pub put-requires : goal.put-requires
 put-requires c = both_in c.args.self.now c.if-at-ge-PLACES.false
 
-pub overflow-add-self-2 : goal.overflow-add-self-2
-overflow-add-self-2 c = let s = sequences_in c.args.self.now in record { fits = omega arith }
+pub overflow_add-self-2 : goal.overflow_add-self-2
+overflow_add-self-2 c = let s = sequences_in c.args.self.now in record { fits = omega arith }
 
 over : (c : goal.After-put) → held c.push.new.self ≡ c.args.self.now.used ∷ held c.args.self.now.opens.now
 over c = c.push.ensures.items ∙ cond-true c.push.result _ _ c.if-not-push.false
 
-pub invariant-of-self-2 : goal.invariant-of-self-2
-invariant-of-self-2 c = ((open_kept c.args.self.now c.put.new.places (held c.push.new.self) c.put.ensures (over c) c.if-at-ge-PLACES.false).kept, tt)
+pub invariant_of-self-2 : goal.invariant_of-self-2
+invariant_of-self-2 c = ((open_kept c.args.self.now c.put.new.places (held c.push.new.self) c.put.ensures (over c) c.if-at-ge-PLACES.false).kept, tt)
 
 pub returns : goal.returns
 returns c =

@@ -10,26 +10,26 @@ use Rattle.program.proofs.Steps.{cons_of, nil_of}
 use Rattle.program.proofs.Walking.{walked_end, walked_numeral, walked_name, walked_open, walked_short, walked_close, left_numeral, left_name, left_sequence}
 use Rattle.program.proofs.walker.Walker.next.Goals as goal
 
-pub returns-in-default-pop : goal.returns-in-default-pop
-returns-in-default-pop c =
+pub returns-in_default-pop : goal.returns-in_default-pop
+returns-in_default-pop c =
     let p = c.pop.ensures in
-    let none : held c.args.self.now.after.now ≡ [] = nil_of (held c.args.self.now.after.now) (sym c.in-default-pop.is ∙ p.top) in
+    let none : held c.args.self.now.after.now ≡ [] = nil_of (held c.args.self.now.after.now) (sym c.in_default-pop.is ∙ p.top) in
     let still : held c.pop.new.self ≡ held c.args.self.now.after.now = p.rest ∙ ap tail_of none ∙ sym none in
     let es : left_of c.args.self.now.program.now.table.places c.args.self.now.at (held c.args.self.now.after.now) ≡ [] =
-    at_end c.args.self.now.program.now.table c.args.self.now.at (held c.args.self.now.after.now) c.args.self.now.program.now.whole c.in-default.ensures.place
+    at_end c.args.self.now.program.now.table c.args.self.now.at (held c.args.self.now.after.now) c.args.self.now.program.now.whole c.in_default.ensures.place
     ∙ ap (after c.args.self.now.program.now.table.places) none in
     let w = walked_end _ _ (length (held c.args.self.now.after.now)) (length (held c.pop.new.self)) (room c.args.self.now.after.now) es
     (ap (left_of c.args.self.now.program.now.table.places c.args.self.now.at) still ∙ es) (ap length still) in
     let size = p.size in
     record { event = w.event; rest = w.rest; room = p.size; ample = λ l. (let q = (w.ample l).0 in omega arith, (w.ample l).1); over = refl; same = refl; places = p.same }
 
-pub returns-in-default : goal.returns-in-default
-returns-in-default c =
+pub returns-in_default : goal.returns-in_default
+returns-in_default c =
     let p = c.pop.ensures in
     let cons : held c.args.self.now.after.now ≡ c.in-Some-pop.at ∷ tail_of (held c.args.self.now.after.now) =
     cons_of (held c.args.self.now.after.now) c.in-Some-pop.at (sym c.in-Some-pop.is ∙ p.top) in
     let rest = ap (left_of c.args.self.now.program.now.table.places c.in-Some-pop.at) p.rest in
-    let es = at_end c.args.self.now.program.now.table c.args.self.now.at (held c.args.self.now.after.now) c.args.self.now.program.now.whole c.in-default.ensures.place
+    let es = at_end c.args.self.now.program.now.table c.args.self.now.at (held c.args.self.now.after.now) c.args.self.now.program.now.whole c.in_default.ensures.place
     ∙ ap (after c.args.self.now.program.now.table.places) cons in
     let deep : length (held c.args.self.now.after.now) ≡ suc (length (held c.pop.new.self)) = let a = ap length cons in let b = ap length p.rest in omega arith in
     let w = walked_close _ (left_of c.args.self.now.program.now.table.places c.in-Some-pop.at (held c.pop.new.self)) (length (held c.args.self.now.after.now)) (length (held c.pop.new.self)) (room c.args.self.now.after.now)
