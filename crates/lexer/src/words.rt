@@ -81,43 +81,43 @@ pub fn numeral(word: &[u8]) -> Reading
 pub fn name(word: &[u8]) -> Option<Name>
     ensures { Names word.now result }
 {
-    if word == b"add" {
+    if word == b"add".as_slice() {
         return Some(Name::Operator(Operator::Add));
     }
-    if word == b"div" {
+    if word == b"div".as_slice() {
         return Some(Name::Operator(Operator::Div));
     }
-    if word == b"eq" {
+    if word == b"eq".as_slice() {
         return Some(Name::Operator(Operator::Eq));
     }
-    if word == b"exec" {
+    if word == b"exec".as_slice() {
         return Some(Name::Exec);
     }
-    if word == b"gt" {
+    if word == b"gt".as_slice() {
         return Some(Name::Operator(Operator::Gt));
     }
-    if word == b"lt" {
+    if word == b"lt".as_slice() {
         return Some(Name::Operator(Operator::Lt));
     }
-    if word == b"mul" {
+    if word == b"mul".as_slice() {
         return Some(Name::Operator(Operator::Mul));
     }
-    if word == b"nget" {
+    if word == b"nget".as_slice() {
         return Some(Name::Nget);
     }
-    if word == b"pop" {
+    if word == b"pop".as_slice() {
         return Some(Name::Pop);
     }
-    if word == b"rem" {
+    if word == b"rem".as_slice() {
         return Some(Name::Operator(Operator::Rem));
     }
-    if word == b"sel" {
+    if word == b"sel".as_slice() {
         return Some(Name::Sel);
     }
-    if word == b"sub" {
+    if word == b"sub".as_slice() {
         return Some(Name::Operator(Operator::Sub));
     }
-    if word == b"swap" {
+    if word == b"swap".as_slice() {
         return Some(Name::Swap);
     }
     None

@@ -12,10 +12,10 @@ use Rattle.operations.proofs.commands.nget.Goals as goal
 
 pub returns : goal.returns
 returns c =
-    let first = sym c.get.ensures ∙ c.in_ok-first.ensures.ok-part in
+    let first = sym c.get.ensures ∙ c.in_ok-first.ensures.ok_part in
     let i : SFits w32 c.in_ok-index.index = search rules in
     let k : SFits w32 c.in_ok-copy.copy = search rules in
-    let found = sym (c.indexed.ensures ∙ ap (counted (tail_of (held c.args.values.now))) (to_z-of_z w32 c.in_ok-index.index i)) ∙ c.in_ok-found.ensures.ok-part in
+    let found = sym (c.indexed.ensures ∙ ap (counted (tail_of (held c.args.values.now))) (to_z-of_z w32 c.in_ok-index.index i)) ∙ c.in_ok-found.ensures.ok_part in
     let e = copied (held c.args.values.now) _ _ _ _ first (sym c.in_ok-index.ensures) found (sym c.in_ok-copy.ensures) in
     let bits = ap (λ z. next (Numeral z ∷ tail_of (held c.args.values.now))) (to_z-of_z w32 c.in_ok-copy.copy k) in
     let p = c.pop.ensures in

@@ -12,8 +12,8 @@ use Rattle.operations.proofs.commands.operate.Goals as goal
 
 pub returns : goal.returns
 returns c =
-    let first = sym c.get.ensures ∙ c.in_ok-first.ensures.ok-part in
-    let second = sym c.get-2.ensures ∙ c.in_ok-second.ensures.ok-part in
+    let first = sym c.get.ensures ∙ c.in_ok-first.ensures.ok_part in
+    let second = sym c.get-2.ensures ∙ c.in_ok-second.ensures.ok_part in
     let a : SFits w32 c.in_ok-left.left = search rules in
     let b : SFits w32 c.in_ok-right.right = search rules in
     let k : SFits w32 c.in_ok-result.result = search rules in

@@ -13,9 +13,9 @@ use Rattle.operations.proofs.commands.sel.Goals.{then-condition-eq0, else-condit
 
 pub returns : goal.returns
 returns c =
-    let first = sym c.get.ensures ∙ c.in_ok-first.ensures.ok-part in
-    let second = sym c.get-2.ensures ∙ c.in_ok-second.ensures.ok-part in
-    let third = sym c.get-3.ensures ∙ c.in_ok-third.ensures.ok-part in
+    let first = sym c.get.ensures ∙ c.in_ok-first.ensures.ok_part in
+    let second = sym c.get-2.ensures ∙ c.in_ok-second.ensures.ok_part in
+    let third = sym c.get-3.ensures ∙ c.in_ok-third.ensures.ok_part in
     let k : SFits w32 c.in_ok-condition.condition = search rules in
     let choice : c.if-condition-eq0.chosen ≡ chosen c.in_ok-condition.condition c.in_ok-first.first c.in_ok-second.second =
     elim c.if-condition-eq0.branch [

@@ -9,8 +9,8 @@ use Rattle.operations.proofs.commands.swap.Goals as goal
 
 pub returns : goal.returns
 returns c =
-    let first = sym c.get.ensures ∙ c.in_ok-first.ensures.ok-part in
-    let second = sym c.get-2.ensures ∙ c.in_ok-second.ensures.ok-part in
+    let first = sym c.get.ensures ∙ c.in_ok-first.ensures.ok_part in
+    let second = sym c.get-2.ensures ∙ c.in_ok-second.ensures.ok_part in
     let both = ap length (two_of (held c.args.values.now) _ _ first second) in
     let p = c.pop.ensures in
     let q = c.pop-2.ensures in

@@ -15,5 +15,5 @@ returns c =
     record {
       answer = twice.answer ∙ answer_fits _ _ _ (omega arith) fits;
       bytes = bytes_fit _ _ _ _ twice.answer fits twice.bytes;
-      reads-back = text_reads_back _ (source_of c.args.program.now.table) _ _ (bounded c.args.program.now.table c.args.program.now.whole) twice.answer fits twice.bytes;
+      reads_back = text_reads_back _ (source_of c.args.program.now.table) _ _ (bounded c.args.program.now.table c.args.program.now.whole) twice.answer fits twice.bytes;
     }

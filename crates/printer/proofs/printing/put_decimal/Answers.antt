@@ -6,8 +6,8 @@ use Rattle.printer.proofs.printing.put_decimal.Goals as goal
 pub loop-front-init : goal.loop-front-init
 loop-front-init c = digits-none c.args.n _ refl
 
-pub overflow_sub-first_in-loop-front : goal.overflow_sub-first_in-loop-front
-overflow_sub-first_in-loop-front c = digits-place _ _ _ _ c.ranges.n.fits c.loop-front-test.true c.loop-front.invariant
+pub overflow_sub-first-in-loop-front : goal.overflow_sub-first-in-loop-front
+overflow_sub-first-in-loop-front c = digits-place _ _ _ _ c.ranges.n.fits c.loop-front-test.true c.loop-front.invariant
 
 pub loop-front-preserved : goal.loop-front-preserved
 loop-front-preserved c = digits_more _ _ _ _ c.ranges.n.fits c.loop-front-test.true c.loop-front.invariant

@@ -9,7 +9,7 @@ pub put-requires : goal.put-requires
 put-requires c = both_in c.args.self.now c.if-at-ge-PLACES.false
 
 pub invariant_of-self : goal.invariant_of-self
-invariant_of-self c = ((plain_kept c.args.self.now c.args.command c.put.new.places c.requires c.put.ensures c.if-at-ge-PLACES.false).kept, tt)
+invariant_of-self c = record { sound = (plain_kept c.args.self.now c.args.command c.put.new.places c.requires c.put.ensures c.if-at-ge-PLACES.false).kept }
 
 pub returns : goal.returns
 returns c =

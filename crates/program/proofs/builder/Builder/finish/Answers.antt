@@ -9,13 +9,12 @@ overflow_sub-table c = used_pos c.args.self.now
 
 pub invariant_of-result : goal.invariant_of-result
 invariant_of-result c =
-    let l : length (held c.args.self.now.opens.now) ≤ 0 = let e = c.len.ensures in let h = c.if-len-gt0.false in omega arith in (
-      (finishes c.args.self.now c.if-self-eq1.first _ l
+    let l : length (held c.args.self.now.opens.now) ≤ 0 = let e = c.len.ensures in let h = c.if-len-gt0.false in omega arith in record {
+      whole = (finishes c.args.self.now c.if-self-eq1.first _ l
           (λ h. elim c.if-self-eq1.branch [ then-self-eq1 w ↦ w.first-is | else-self-eq1 w ↦ absurd (w.if-self-eq1.false h) ])
           (λ h. elim c.if-self-eq1.branch [ then-self-eq1 w ↦ absurd (h w.if-self-eq1.true) | else-self-eq1 w ↦ w.first-is ])
-          refl refl refl c.count.ensures).kept,
-      tt,
-    )
+          refl refl refl c.count.ensures).kept
+    }
 
 pub returns : goal.returns
 returns c =

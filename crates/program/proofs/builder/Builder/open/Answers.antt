@@ -24,7 +24,7 @@ over : (c : goal.After-put) → held c.push.new.self ≡ c.args.self.now.used �
 over c = c.push.ensures.items ∙ cond-true c.push.result _ _ c.if-not-push.false
 
 pub invariant_of-self-2 : goal.invariant_of-self-2
-invariant_of-self-2 c = ((open_kept c.args.self.now c.put.new.places (held c.push.new.self) c.put.ensures (over c) c.if-at-ge-PLACES.false).kept, tt)
+invariant_of-self-2 c = record { sound = (open_kept c.args.self.now c.put.new.places (held c.push.new.self) c.put.ensures (over c) c.if-at-ge-PLACES.false).kept }
 
 pub returns : goal.returns
 returns c =
