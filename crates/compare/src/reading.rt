@@ -139,7 +139,7 @@ fn head(tokens: &[Token]) -> Option<u8> {
     let Some(Token::Word(count)) = tokens.get(2) else {
         return None;
     };
-    if word.as_slice() != b"postfix" {
+    if word.as_slice() != b"postfix".as_slice() {
         return None;
     }
     let count = size(count.as_slice())?;

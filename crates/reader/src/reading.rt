@@ -69,7 +69,7 @@ fn header(lexer: &mut Lexer) -> Result<Arity, ReadError>
 {
     expect_open(lexer)?;
     let first = next_word(lexer)?;
-    if !(first == b"postfix") {
+    if !(first == b"postfix".as_slice()) {
         return Err(ReadError {
             refusal: Refusal::Head,
             at: Some(lexer.start()),

@@ -1,6 +1,6 @@
-use Rattle.std.proofs.Common.{ℕ, Some, refl, ap, ◌∙◌}
+use Rattle.std.proofs.Common.{ℕ, Some, refl, sym, ap, ◌∙◌}
 use Rattle.std.proofs.lemmas.Slice.Eq.{slice_eq-Decides}
-use Rattle.std.proofs.lemmas.Bool.Decides.{not_from_Decides}
+use Rattle.std.proofs.lemmas.Bool.Decides.{Decides-eqb, not_from_Decides}
 use Rattle.std.proofs.lemmas.Result.{err_from_is_err_and}
 use Rattle.lexer.specs.Lexing.{rest, text_of}
 use Rattle.reader.proofs.Turns.{moved, blamed, second_wrong, at_third, third_absent, third_no_digits, third_many, third_right}
@@ -11,7 +11,7 @@ returns-then-not-eq c = record {
   text = c.next_word.ensures.text ∙ c.expect_open.ensures.text;
   head = blamed _ _ _ _ _
       (second_wrong (rest c.args.lexer.now) (rest c.expect_open.new.lexer) c.in_ok-expect_open.ensures.opens c.in_ok-first.first.now (rest c.next_word.new.lexer)
-      c.in_ok-first.ensures.word.0 (not_from_Decides _ (slice_eq-Decides _ _ _ c.eq.ensures) c.if-not-eq.true))
+      c.in_ok-first.ensures.word.0 (λ e. not_from_Decides _ (slice_eq-Decides Decides-eqb _ _ _ c.eq.ensures) c.if-not-eq.true (e ∙ sym c.as_slice.ensures)))
       refl
       (moved (text_of c.expect_open.new.lexer) _ (rest c.expect_open.new.lexer) (Some c.start.result) (Some c.next_word.new.lexer.start) c.expect_open.ensures.text (ap (λ (n : ℕ). Some n) c.start.ensures) c.in_ok-first.ensures.word.1);
 }
@@ -25,7 +25,7 @@ returns-in_err-count c =
       head = rw (p.1, p.2)
           (blamed _ _ _ (rest c.next_word.new.lexer) _
           (at_third (rest c.args.lexer.now) (rest c.expect_open.new.lexer) c.in_ok-expect_open.ensures.opens c.in_ok-first.first.now (rest c.next_word.new.lexer)
-          c.in_ok-first.ensures.word.0 ((slice_eq-Decides _ _ _ c.eq.ensures).0 c.if-not-eq.false)
+          c.in_ok-first.ensures.word.0 ((slice_eq-Decides Decides-eqb _ _ _ c.eq.ensures).0 c.if-not-eq.false ∙ c.as_slice.ensures)
           ∙ third_absent (rest c.next_word.new.lexer) w.2)
           w.0
           (moved (text_of c.next_word.new.lexer) _ (rest c.next_word.new.lexer) c.in_err-count.field-0.0.at c.in_err-count.field-0.0.at (c.next_word.ensures.text ∙ c.expect_open.ensures.text) refl w.1));
@@ -36,7 +36,7 @@ returns-in_default c = record {
   text = c.next_word-2.ensures.text ∙ c.next_word.ensures.text ∙ c.expect_open.ensures.text;
   head = blamed _ _ _ (rest c.next_word.new.lexer) _
       (at_third (rest c.args.lexer.now) (rest c.expect_open.new.lexer) c.in_ok-expect_open.ensures.opens c.in_ok-first.first.now (rest c.next_word.new.lexer)
-      c.in_ok-first.ensures.word.0 ((slice_eq-Decides _ _ _ c.eq.ensures).0 c.if-not-eq.false)
+      c.in_ok-first.ensures.word.0 ((slice_eq-Decides Decides-eqb _ _ _ c.eq.ensures).0 c.if-not-eq.false ∙ c.as_slice.ensures)
       ∙ third_no_digits (rest c.next_word.new.lexer) c.in_ok-count.count.now (rest c.next_word-2.new.lexer) c.in_ok-count.ensures.word.0 c.in_default.ensures)
       refl
       (moved (text_of c.next_word.new.lexer) _ (rest c.next_word.new.lexer) (Some c.start-2.result) (Some c.next_word-2.new.lexer.start) (c.next_word.ensures.text ∙ c.expect_open.ensures.text) (ap (λ (n : ℕ). Some n) c.start-2.ensures) c.in_ok-count.ensures.word.1);
@@ -47,7 +47,7 @@ returns-in-Some-new c = record {
   text = c.next_word-2.ensures.text ∙ c.next_word.ensures.text ∙ c.expect_open.ensures.text;
   head =
       at_third (rest c.args.lexer.now) (rest c.expect_open.new.lexer) c.in_ok-expect_open.ensures.opens c.in_ok-first.first.now (rest c.next_word.new.lexer)
-      c.in_ok-first.ensures.word.0 ((slice_eq-Decides _ _ _ c.eq.ensures).0 c.if-not-eq.false)
+      c.in_ok-first.ensures.word.0 ((slice_eq-Decides Decides-eqb _ _ _ c.eq.ensures).0 c.if-not-eq.false ∙ c.as_slice.ensures)
       ∙ third_right (rest c.next_word.new.lexer) c.in_ok-count.count.now (rest c.next_word-2.new.lexer) c.in_ok-count.ensures.word.0 c.in-Some.value c.in-Some-new.arity.count
       c.in-Some.ensures.0 c.in-Some.ensures.1 c.in-Some-new.ensures c.in-Some-new.arity.few;
 }
@@ -57,7 +57,7 @@ returns-in-None c = record {
   text = c.next_word-2.ensures.text ∙ c.next_word.ensures.text ∙ c.expect_open.ensures.text;
   head = blamed _ _ _ (rest c.next_word.new.lexer) _
       (at_third (rest c.args.lexer.now) (rest c.expect_open.new.lexer) c.in_ok-expect_open.ensures.opens c.in_ok-first.first.now (rest c.next_word.new.lexer)
-      c.in_ok-first.ensures.word.0 ((slice_eq-Decides _ _ _ c.eq.ensures).0 c.if-not-eq.false)
+      c.in_ok-first.ensures.word.0 ((slice_eq-Decides Decides-eqb _ _ _ c.eq.ensures).0 c.if-not-eq.false ∙ c.as_slice.ensures)
       ∙ third_many (rest c.next_word.new.lexer) c.in_ok-count.count.now (rest c.next_word-2.new.lexer) c.in_ok-count.ensures.word.0 c.in-Some.value c.in-Some.ensures.0 c.in-Some.ensures.1 c.in-None.ensures)
       refl
       (moved (text_of c.next_word.new.lexer) _ (rest c.next_word.new.lexer) (Some c.start-2.result) (Some c.next_word-2.new.lexer.start) (c.next_word.ensures.text ∙ c.expect_open.ensures.text) (ap (λ (n : ℕ). Some n) c.start-2.ensures) c.in_ok-count.ensures.word.1);
