@@ -11,7 +11,7 @@ loop-index-preserved c =
     one_collected (map string_bytes c.args.words.now) (vec_items c.loop-index.numbers) (vec_items c.push.new.self) c.loop-index.index c.as_bytes.result.now c.in-Ok.number f
     (within-map string_bytes c.args.words.now c.loop-index.index c.loop-index-test.true)
     (bytes-at string_bytes c.args.words.now c.loop-index.index c.index-words-index.result c.as_bytes.result.now c.loop-index-test.true c.index-words-index.is c.as_bytes.ensures.value)
-    c.in-Ok.ensures c.in_ok-push.ensures.items c.loop-index.invariant
+    c.in-Ok.ensures c.in_ok-push-in-Ok.ensures.items c.loop-index.invariant
 
 pub returns-in-Err : goal.returns-in-Err
 returns-in-Err c =

@@ -3,10 +3,10 @@ use Rattle.program.specs.Programs.{program_of}
 use Rattle.guide.proofs.Tellings.{tells_ran, tells_refused_first}
 use Rattle.guide.proofs.outcome.run_report.Goals as goal
 
-pub returns-in_ok-program_report : goal.returns-in_ok-program_report
-returns-in_ok-program_report c =
-    tells_ran c.args.text.now (map string_bytes c.args.words.now) (program_of c.read.new.into) _ c.in-Ok.ensures.reads c.in_ok-program_report.ensures
+pub returns-in_ok-program_report-in-Ok : goal.returns-in_ok-program_report-in-Ok
+returns-in_ok-program_report-in-Ok c =
+    tells_ran c.args.text.now (map string_bytes c.args.words.now) (program_of c.read.new.into) _ c.in-Ok.ensures.reads c.in_ok-program_report-in-Ok.ensures
 
-pub returns-in_ok-refusal : goal.returns-in_ok-refusal
-returns-in_ok-refusal c =
-    tells_refused_first c.args.text.now (map string_bytes c.args.words.now) c.in-Err.error _ c.in-Err.ensures.reads.1 refl c.in_ok-refusal.ensures
+pub returns-in_ok-refusal-in-Err : goal.returns-in_ok-refusal-in-Err
+returns-in_ok-refusal-in-Err c =
+    tells_refused_first c.args.text.now (map string_bytes c.args.words.now) c.in-Err.error _ c.in-Err.ensures.reads.1 refl c.in_ok-refusal-in-Err.ensures
