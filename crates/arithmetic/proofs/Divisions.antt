@@ -7,8 +7,8 @@ use Rattle.std.proofs.lemmas.Int.{int_wrap_fits}
 use Rattle.std.proofs.lemmas.Bool.{cases_eq, cond-true, cond-false, eq-eqb, ne_eqb, le-ltb}
 use Rattle.codes.specs.declared.Fault.TheVariants.{ZeroDivisor}
 use Rattle.arithmetic.specs.Numbers.{least, in_range}
-use Rattle.arithmetic.specs.Operations.{reduced, quotient, remainder, divided}
-use Rattle.arithmetic.specs.Laws.{Division, DivisionsAreExact, LeastByMinusOne}
+use Rattle.arithmetic.specs.Operations.{quotient, remainder, divided}
+use Rattle.arithmetic.specs.Laws.{DivisionsAreExact, LeastByMinusOne}
 use Rattle.arithmetic.proofs.Ranges.{in_range_fits, fits_in_range}
 use Rattle.arithmetic.proofs.Residues.{reduced-in_range}
 

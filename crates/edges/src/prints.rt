@@ -70,5 +70,5 @@ fn short_memory_writes_nothing(rt: HostRuntime) {
     assert!(rt; out == [7u8; 14]);
     assert_eq!(rt; printed(b"(postfix 0 12)", &mut enough, &mut out), Ok(14));
     let all: &[u8] = &out;
-    assert!(rt; all == b"(postfix 0 12)");
+    assert!(rt; all == b"(postfix 0 12)".as_slice());
 }

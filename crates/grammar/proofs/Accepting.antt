@@ -14,7 +14,7 @@ use Rattle.syntax.proofs.Growing as growing
 use Rattle.syntax.proofs.Growing.{append-end, commands-append}
 use Rattle.grammar.specs.Tokens.{Token, opening, closing, word, tokens}
 use Rattle.grammar.specs.Words.{Meaning, number, command, huge, strange, meaning, digital, name_word, Numeral}
-use Rattle.grammar.specs.Reading.{taken, refused, fed, shut, follow, after, next, body, postfix, counted, third, second, program, parse, reading}
+use Rattle.grammar.specs.Reading.{taken, refused, fed, shut, follow, after, next, body, postfix, counted, third, second, program, parse}
 use Rattle.grammar.specs.Printing.{print}
 use Rattle.grammar.specs.Grammar.{Commands, none, numeral_then, name_then, sequence_then, Spells, program_of, AcceptsTheGrammar, PrintReadsBack, PrintReadsBackInEnoughPlaces, ReadingIsBounded, OneReading, PrintsDiffer}
 use Rattle.grammar.proofs.Words.{Says, says, numeral_means, name_means}

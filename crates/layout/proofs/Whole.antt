@@ -10,7 +10,7 @@ use Rattle.layout.specs.declared.Command.{Command}
 use Rattle.layout.specs.declared.Command.TheVariants.{Numeral, Name, Sequence}
 use Rattle.layout.specs.declared.Place.{Place}
 use Rattle.layout.specs.declared.Table.{Table}
-use Rattle.layout.specs.Tables.{table_places, at, along, chain, command_then, tree, source_of, passed_at, no_more, reached, counting, counts, in_order, whole, on, forward, smalls, link, lies}
+use Rattle.layout.specs.Tables.{table_places, at, along, chain, command_then, tree, source_of, passed_at, no_more, reached, counting, counts, in_order, whole, forward, smalls, link, lies}
 use Rattle.layout.specs.Walking.{place_at, opened, after, left_of}
 use Rattle.layout.proofs.Chains.{past, step, three, forward-at, ranged-chain}
 use Rattle.layout.proofs.Layouts.{Laid, laid_of, visited, one_layout}

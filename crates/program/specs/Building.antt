@@ -6,7 +6,7 @@ use Rattle.stack.specs.Held.{held, room}
 use Rattle.syntax.specs.declared.Event.{Event}
 use Rattle.syntax.specs.declared.Event.TheVariants.{Numeral, Name, Open, Close}
 use Rattle.syntax.specs.Code.{Code, Source, source}
-use Rattle.syntax.specs.Events.{Draft, depth, feed, finished}
+use Rattle.syntax.specs.Events.{Draft, depth, feed}
 use Rattle.arithmetic.specs.Numbers.{in_range}
 use Rattle.layout.specs.declared.Command.{Command}
 use Rattle.layout.specs.declared.Command.TheVariants.{Numeral as NumeralCommand, Name as NameCommand, Sequence as SequenceCommand}

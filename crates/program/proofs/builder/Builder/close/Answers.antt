@@ -33,7 +33,7 @@ invariant_of-self-2 c =
     let e = cons_of (held c.args.self.now.opens.now) c.in-Some.at (sym c.in-Some.is ∙ c.pop.ensures.top) in record {
       sound = (close_kept c.args.self.now c.in-Some.at (tail_of (held c.args.self.now.opens.now)) e c.if-self-at.first (held c.pop.new.self) c.pop.ensures.rest
           (λ h. elim c.if-self-at.branch [ then-self-at w ↦ w.first-is | else-self-at w ↦ absurd (w.if-self-at.false h) ])
-          (λ h. elim c.if-self-at.branch [ then-self-at w ↦ absurd (h w.if-self-at.true) | else-self-at w ↦ w.first-is ])).kept
+          (λ h. elim c.if-self-at.branch [ then-self-at w ↦ absurd (h w.if-self-at.true) | else-self-at w ↦ w.first-is ])).kept;
     }
 
 pub returns : goal.returns

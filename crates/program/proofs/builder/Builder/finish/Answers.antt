@@ -13,7 +13,7 @@ invariant_of-result c =
       whole = (finishes c.args.self.now c.if-self-eq1.first _ l
           (λ h. elim c.if-self-eq1.branch [ then-self-eq1 w ↦ w.first-is | else-self-eq1 w ↦ absurd (w.if-self-eq1.false h) ])
           (λ h. elim c.if-self-eq1.branch [ then-self-eq1 w ↦ absurd (h w.if-self-eq1.true) | else-self-eq1 w ↦ w.first-is ])
-          refl refl refl c.count.ensures).kept
+          refl refl refl c.count.ensures).kept;
     }
 
 pub returns : goal.returns

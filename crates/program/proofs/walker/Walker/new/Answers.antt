@@ -1,4 +1,4 @@
-use Rattle.std.proofs.Common.{◌≡◌, ℕ, ◌+◌, ◌≤◌, List, [], length, sym, refl, ap, ◌∙◌, arith}
+use Rattle.std.proofs.Common.{◌≡◌, [], length, refl, ap, arith}
 use Rattle.stack.specs.Held.{held}
 use Rattle.syntax.specs.Events.{openings}
 use Rattle.syntax.proofs.Growing.{openings-onto, sequences_le}
