@@ -1,6 +1,6 @@
 -- A text falls into its tokens, and into no others.
 use Rattle.std.proofs.Common.{◌≡◌, ℕ, ◌<◌, true, List, [], ◌∷◌, ◌++◌, length, sym, refl, ap, ◌∙◌, subst, append-nil, arith}
-use Rattle.std.specs.List.{AllByRecursion as All}
+use Rattle.std.specs.List.{AllByRecursion}
 use Rattle.std.proofs.lemmas.Bool.{both_ways}
 use Rattle.std.proofs.lemmas.Bool.Decides.{nat_tests}
 use Rattle.grammar.specs.Tokens.{Token, opening, closing, word, white, kind, space, left, right, letter, Kind, Cut, put, lex, joined, tokens, Letter, Stops, Lexes, nothing, skipped, opened, closed, run, TokensAreLongestRuns}
@@ -8,7 +8,7 @@ use Rattle.grammar.proofs.Steps.{white_space, letter_from, put-stop}
 
 -- a run of letters
 abbrev pub Letters : List ℕ → Type 0
-Letters w = All (λ c. kind c ≡ letter) w
+Letters w = AllByRecursion (λ c. kind c ≡ letter) w
 
 -- a run of letters that is a word
 abbrev pub Wordy : List ℕ → Type 0
@@ -25,7 +25,7 @@ lex-then (c ∷ w) x ts h e = rw (lex-word (c ∷ w) x h.1, e, append-nil w) ref
 from_letter : (c : ℕ) → Letter c → kind c ≡ letter
 from_letter c h = letter_from c h.1 h.2 h.0
 
-letters : (w : List ℕ) → All Letter w → Letters w
+letters : (w : List ℕ) → AllByRecursion Letter w → Letters w
 letters [] h = tt
 letters (c ∷ w) h = (from_letter c h.0, letters w h.1)
 
@@ -54,7 +54,7 @@ lexed (run {w} {t} {ts} l h s x) = lex-then w t ts (l, letters w h) (stops-lex t
 
 -- a text that is cut after its first letters, with how the rest falls into tokens
 data Cutting : List ℕ → Cut → Type 0 where
-  cutting : (w : List ℕ) {u : List ℕ} {ts : List Token} → All Letter w → Stops u → Lexes u ts → Cutting (w ++ u) (w, ts)
+  cutting : (w : List ℕ) {u : List ℕ} {ts : List Token} → AllByRecursion Letter w → Stops u → Lexes u ts → Cutting (w ++ u) (w, ts)
 
 whole : {t : List ℕ} {x : Cut} → Cutting t x → Lexes t (joined x)
 whole (cutting [] l s x) = x

@@ -1,6 +1,6 @@
 -- A text's tokens: round brackets, and words that are as long as they can be. Blanks, tabs and line ends only separate.
 use Rattle.std.specs.Prelude.{◌≡◌, ℕ, ◌-◌, ◌<◌, Bool, true, false, cond, ◌||◌, List, [], ◌∷◌, ◌++◌, length, take, drop, ◌==◌, ◌≢◌}
-use Rattle.std.specs.List.{AllByRecursion as All}
+use Rattle.std.specs.List.{AllByRecursion}
 
 -- a bracket, or a word by its bytes
 pub data Token : Type 0 where
@@ -64,7 +64,7 @@ pub data Lexes : List ℕ → List Token → Type 0 where
   skipped : {c : ℕ} {t : List ℕ} {ts : List Token} → white c ≡ true → Lexes t ts → Lexes (c ∷ t) ts
   opened : {t : List ℕ} {ts : List Token} → Lexes t ts → Lexes (40 ∷ t) (opening ∷ ts)
   closed : {t : List ℕ} {ts : List Token} → Lexes t ts → Lexes (41 ∷ t) (closing ∷ ts)
-  run : {w t : List ℕ} {ts : List Token} → 0 < length w → All Letter w → Stops t → Lexes t ts → Lexes (w ++ t) (word w ∷ ts)
+  run : {w t : List ℕ} {ts : List Token} → 0 < length w → AllByRecursion Letter w → Stops t → Lexes t ts → Lexes (w ++ t) (word w ∷ ts)
 
 -- a text falls into its tokens, and into no others
 abbrev pub TokensAreLongestRuns : Type 0

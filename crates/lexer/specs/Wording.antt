@@ -6,7 +6,7 @@ use Rattle.codes.specs.declared.Refusal.TheVariants.{Word, Range}
 use Rattle.arithmetic.specs.Numbers.{in_range}
 use Rattle.syntax.specs.declared.Name.{Name}
 use Rattle.syntax.specs.declared.Event.{Event}
-use Rattle.syntax.specs.declared.Event.TheVariants.{Numeral as numeral-event, Name as name-event}
+use Rattle.syntax.specs.declared.Event.TheVariants.{Numeral as numeral_event, Name as name_event}
 use Rattle.grammar.specs.Words.{digital, name_word, Numeral, Meaning, number, command, huge, strange}
 use Rattle.lexer.specs.declared.words.Reading.{Reading}
 use Rattle.lexer.specs.declared.words.Reading.TheVariants.{Number, OutOfRange, NoNumeral}
@@ -35,7 +35,7 @@ Names w None = (o : Name) → w ≢ name_word o
 
 -- the command that a word with this meaning is, or its refusal
 abbrev pub told : Meaning → Result Event Refusal
-told (number z) = Ok (numeral-event z)
-told (command o) = Ok (name-event o)
+told (number z) = Ok (numeral_event z)
+told (command o) = Ok (name_event o)
 told huge = Err Range
 told strange = Err Word

@@ -3,7 +3,7 @@
 
 ghost use Rattle.operations.specs.Acting.{answer_of, left_by};
 ghost use Rattle.semantics.specs.Commands.{act};
-ghost use Rattle.semantics.specs.Meaning.{result as outcome-of};
+ghost use Rattle.semantics.specs.Meaning.{result as outcome_of};
 ghost use Rattle.stack.specs.Held.{held, room};
 ghost use Rattle.std.specs.Prelude.{◌≡◌};
 
@@ -44,7 +44,7 @@ pub fn apply(command: Name, values: &mut Stack<Value<u16>>) -> Result<Next, Faul
 
 // What a run comes to whose last command leaves these values.
 pub fn result(values: &Stack<Value<u16>>) -> Outcome
-    ensures { result ≡ outcome-of (held values.now) }
+    ensures { result ≡ outcome_of (held values.now) }
 {
     match values.get(0) {
         Some(Value::Numeral(number)) => Outcome::Number(number),

@@ -1,6 +1,6 @@
 // Reading: tokens to events, events to the builder, up to the last bracket or the first wrong token.
 ghost use Rattle.std.specs.Prelude.{◌≡◌, ◌≤◌, [], length};
-ghost use Rattle.grammar.specs.Reading.{after, body, program as program-verdict, step};
+ghost use Rattle.grammar.specs.Reading.{after, body, program as program_verdict, step};
 ghost use Rattle.lexer.specs.Lexing.{lexeme, rest, text_of};
 ghost use Rattle.program.specs.Building.{working};
 ghost use Rattle.stack.specs.Held.{room};
@@ -65,7 +65,7 @@ pub fn read(text: &[u8], brackets: &mut [u16], into: &mut Program) -> Result<(),
 // The first three tokens: an opening bracket, the word postfix, and the number of parameters.
 fn header(lexer: &mut Lexer) -> Result<Arity, ReadError>
     ensures text { text_of lexer.new ≡ text_of lexer.old }
-    ensures head { Headed (text_of lexer.old) (program-verdict (rest lexer.old)) (rest lexer.new) result }
+    ensures head { Headed (text_of lexer.old) (program_verdict (rest lexer.old)) (rest lexer.new) result }
 {
     expect_open(lexer)?;
     let first = next_word(lexer)?;

@@ -22,7 +22,7 @@ use Rattle.semantics.specs.Commands.{Stack, Effect, next, enter, stop, truth, qu
 use Rattle.semantics.specs.Meaning.{Course, done, stopped, spend, meaning, numbers, run}
 use Rattle.semantics.specs.Running.{Runs, ends, pushes_numeral, pushes_sequence, goes_on, enters, stops, Ends, wrong_count, number, empty, sequence_on_top, faulted}
 use Rattle.semantics.specs.Laws.{Within, NumbersWithin, StaysInRange}
-use Rattle.semantics.proofs.Acts.{Closed, Likes, nexts, enters as enters-alike, stops as stops-alike, acts}
+use Rattle.semantics.proofs.Acts.{Closed, Likes, nexts, enters as enters_alike, stops as stops_alike, acts}
 use Rattle.semantics.proofs.Runs.{every_run_ends_lem}
 
 -- a number of the language
@@ -80,8 +80,8 @@ Left (stop f) = Unit {0}
 
 left : {n : ℕ} {x y : Effect Code} → Likes InRange Second 0 (λ (b : Code). 0) n x y → Left y
 left (nexts h l) = second h
-left (enters-alike r h l) = (r, second h)
-left stops-alike = tt
+left (enters_alike r h l) = (r, second h)
+left stops_alike = tt
 
 leaves : (o : Name) (s : Stack Code) (x : Effect Code) → act o s ≡ x → Within s → Left x
 leaves o s x e h = subst Left e (left (acts InRange Second 0 (λ (b : Code). 0) numbers-close o (itself s h)))
