@@ -21,6 +21,7 @@ use anyhow::anyhow;
 use dice::Dice;
 use std::alloc::Global;
 use std::env;
+use std::process::ExitCode;
 use tally::Tally;
 use trial::{Failure, compare_examples, compare_generated};
 
@@ -33,9 +34,17 @@ const COUNT: u64 = 4_000;
 // Which seed is taken where no other is asked for.
 const SEED: u64 = 20_260_101;
 
+// Where the comparison ends with an error, what there is to say of it has been said: status 1 is all that is added.
+fn main(rt: HostRuntime) -> ExitCode {
+    match compare(&rt) {
+        Ok(()) => ExitCode::SUCCESS,
+        Err(_) => ExitCode::FAILURE,
+    }
+}
+
 // Makes the comparisons, and prints what they came to.
-fn main(rt: HostRuntime) -> anyhow::Result<()> {
-    let Some((count, seed)) = settings(&rt) else {
+fn compare(rt: &HostRuntime) -> anyhow::Result<()> {
+    let Some((count, seed)) = settings(rt) else {
         rt.eprintln(USAGE)?;
         return Err(anyhow!("no such settings"));
     };

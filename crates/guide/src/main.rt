@@ -11,14 +11,24 @@ use input::read_input;
 use outcome::run_report;
 use report::{Report, read_report};
 use std::env;
+use std::process::ExitCode;
 
 const USAGE: &str = "usage:
   guide read FILE                read the rule in FILE and print it in its standard form
   guide run FILE [NUMBER ...]    run the rule in FILE on these numbers
 standard input is read where FILE is -";
 
-fn main(rt: HostRuntime) -> anyhow::Result<()> {
-    let mut words = match env::args(&rt) {
+// Where a command ends with an error, what there is to say of it has been said: status 1 is all that is added.
+fn main(rt: HostRuntime) -> ExitCode {
+    match run_command(&rt) {
+        Ok(()) => ExitCode::SUCCESS,
+        Err(_) => ExitCode::FAILURE,
+    }
+}
+
+// Does what the command line asks for.
+fn run_command(rt: &HostRuntime) -> anyhow::Result<()> {
+    let mut words = match env::args(rt) {
         Ok(words) => words,
         Err(error) => {
             eprintln!(rt; "cannot read the arguments, which have to be UTF-8: {error}")?;
@@ -33,8 +43,8 @@ fn main(rt: HostRuntime) -> anyhow::Result<()> {
     if let Some(file) = words.next() {
         let more = words.collect::<Vec<String>>(rt.alloc())?;
         match name.as_str() {
-            "read" if more.is_empty() => return read_rule(&rt, file.as_str()),
-            "run" => return run_rule(&rt, file.as_str(), more.as_slice()),
+            "read" if more.is_empty() => return read_rule(rt, file.as_str()),
+            "run" => return run_rule(rt, file.as_str(), more.as_slice()),
             _ => {}
         }
     }
