@@ -1,7 +1,7 @@
 -- Digits byte by byte, the range, names, and with them what a word means.
 use Rattle.std.proofs.Common.{◌≡◌, ℕ, zero, suc, ◌+◌, ◌-◌, ◌*◌, ◌^◌, ◌<◌, ◌≤◌, min, true, false, ◌&&◌, eqb, leb, List, [], ◌∷◌, length, get_or, take, drop, ℤ, pos, negsuc, neg_ℤ, sym, refl, ap, ◌∙◌, subst, arith}
 use lib.Signed.{mag}
-use Rattle.std.specs.Char.{is_ascii_digit, digit_value as digitValue}
+use Rattle.std.specs.Char.{is_ascii_digit, digit_value}
 use Rattle.std.specs.Str.Parse.{digits_value}
 use Rattle.std.specs.Str.{all_ascii_digits, bytes_eq}
 use Rattle.std.proofs.lemmas.Int.Digits.{digits_value_more}
@@ -51,12 +51,12 @@ pub digital-from : (w : List ℕ) → 0 < length w → all_ascii_digits w ≡ tr
 digital-from [] l h = absurd (omega arith)
 digital-from (c ∷ w) l h = h
 
-digit_value : (c : ℕ) → 48 ≤ c → c ≤ 57 → digitValue c ≡ c - 48
-digit_value c l h = grind (arith, nat_tests)
+digit_value_lem : (c : ℕ) → 48 ≤ c → c ≤ 57 → digit_value c ≡ c - 48
+digit_value_lem c l h = grind (arith, nat_tests)
 
 -- a value that is held at 2 ^ 32, one digit more
 pub held_more : (xs : List ℕ) (i v : ℕ) → i < length xs → 48 ≤ get_or xs i 0 → get_or xs i 0 ≤ 57 → v ≡ min (digits_value 10 (take i xs)) (2 ^ 32) → min (v * 10 + (get_or xs i 0 - 48)) (2 ^ 32) ≡ min (digits_value 10 (take (i + 1) xs)) (2 ^ 32)
-held_more xs i v l low high e = omega (arith, digits_value_more 10 xs i l, digit_value (get_or xs i 0) low high)
+held_more xs i v l low high e = omega (arith, digits_value_more 10 xs i l, digit_value_lem (get_or xs i 0) low high)
 
 -- the range
 
