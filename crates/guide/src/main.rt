@@ -43,7 +43,7 @@ fn run_command(rt: &HostRuntime) -> anyhow::Result<()> {
     if let Some(file) = words.next() {
         let more = words.collect::<Vec<String>>(rt.alloc())?;
         match name.as_str() {
-            "read" if more.is_empty() => return read_rule(rt, file.as_str()),
+            "read" if more.is_empty() => return run_read(rt, file.as_str()),
             "run" => return run_rule(rt, file.as_str(), more.as_slice()),
             _ => {}
         }
@@ -53,7 +53,7 @@ fn run_command(rt: &HostRuntime) -> anyhow::Result<()> {
 }
 
 // Reads a rule and prints it, or its refusal.
-fn read_rule(rt: &HostRuntime, file: &str) -> anyhow::Result<()> {
+fn run_read(rt: &HostRuntime, file: &str) -> anyhow::Result<()> {
     let text = text_of(rt, file)?;
     tell(rt, read_report(rt.alloc(), text.as_slice())?)
 }
