@@ -21,6 +21,12 @@ pub struct Place {
     pub next: u16,
 }
 
+// A place that nothing uses.
+pub const VACANT: Place = Place {
+    command: Command::Numeral(0),
+    next: 0,
+};
+
 // Place 0 is the head: it holds no command, and links to the first.
 #[derive(Clone, Copy)]
 pub struct Table {

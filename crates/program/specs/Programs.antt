@@ -1,9 +1,10 @@
 -- The program that a record stands for.
-use Rattle.std.specs.Prelude.{◌≡◌, ℕ, ◌≤◌, Some, None, Option}
+use Rattle.std.specs.Prelude.{◌≡◌, ℕ, ◌≤◌, Ok, Err, Result}
 use Rattle.syntax.specs.Bounds.{most_parameters}
 use Rattle.syntax.specs.Code.{Code, Source, commands}
 use Rattle.layout.specs.Tables.{tree, source_of, at, chain, reached, counting}
 use Rattle.program.specs.declared.arity.Arity.{Arity}
+use Rattle.program.specs.declared.arity.TooManyParameters.{TooManyParameters}
 use Rattle.program.specs.declared.record.Program.{Program}
 
 -- the program that a record stands for: its parameter count and its tree
@@ -19,9 +20,9 @@ abbrev pub from : Program → ℕ → Code
 from p v = chain p.table.places v
 
 -- a count of parameters, where there may be so many
-abbrev pub Counts : ℕ → Option Arity → Type 0
-Counts n None = n ≤ most_parameters → ⊥
-Counts n (Some a) = a.count ≡ n
+abbrev pub Counts : ℕ → Result Arity TooManyParameters → Type 0
+Counts n (Err e) = n ≤ most_parameters → ⊥
+Counts n (Ok a) = a.count ≡ n
 
 -- a walk from the head passes the places 1, 2, 3 up to the number of commands, each just once, and no other
 abbrev pub ReachesEachPlaceOnce : Type 0

@@ -8,3 +8,7 @@ pub struct Arity {
     pub(crate) count: u8,
     ghost few: { count ≤ most_parameters },
 }
+
+// A count that is above what a program may have.
+#[derive(Clone, Copy, PartialEq, Eq, Debug)]
+pub struct TooManyParameters;

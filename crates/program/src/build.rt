@@ -1,5 +1,5 @@
 // How a builder takes events.
-ghost use Rattle.std.specs.Prelude.{◌≡◌, ◌+◌, ◌<◌, true};
+ghost use Rattle.std.specs.Prelude.{◌≡◌, ◌+◌, ◌<◌, true, length};
 ghost use Rattle.layout.specs.Drafts.{placed};
 ghost use Rattle.layout.specs.Tables.{table_places};
 ghost use Rattle.program.specs.Building.{Took, completed, event_of, plain, program_if, working};
@@ -10,31 +10,25 @@ use super::arity::Arity;
 use super::builder::Builder;
 use super::record::Program;
 use codes::Refusal;
-use layout::{Command, PLACES, Place, Table};
+use layout::{Command, PLACES, Place, Table, VACANT};
 use stack::Stack;
 use syntax::Event;
 
-impl<'a, 'b> Builder<'a, 'b> {
-    // A builder of a program with so many parameters, which keeps its open brackets on the lent stack.
-    pub fn new(arity: Arity, opens: &'a mut Stack<'b, u16>) -> Builder<'a, 'b>
+impl<'a> Builder<'a> {
+    // A builder of a program with so many parameters, which keeps its open brackets in the lent places.
+    pub fn new(arity: Arity, brackets: &'a mut [u16]) -> Builder<'a>
         ensures start { working result ≡ blank }
         ensures arity { result.arity ≡ arity }
-        ensures room { room result.opens.now ≡ room opens.old }
-        ensures same { result.opens.ghost_name ≡ opens.entry.ghost_name }
-        ensures places { result.opens.now.places.ghost_name ≡ opens.old.places.ghost_name }
+        ensures room { room result.opens ≡ length brackets.old }
+        ensures same { result.opens.places.ghost_name ≡ brackets.entry.ghost_name }
     {
-        opens.clear();
-        let vacant = Place {
-            command: Command::Numeral(0),
-            next: 0,
-        };
         Builder {
-            places: [vacant; PLACES],
+            places: [VACANT; PLACES],
             used: 1,
             last: 0,
             sequences: 0,
             arity,
-            opens,
+            opens: Stack::new(brackets),
         }
     }
 
@@ -107,8 +101,8 @@ impl<'a, 'b> Builder<'a, 'b> {
         let first = if self.used == 1 { 0 } else { 1 };
         let mut places = self.places;
         places[0] = Place {
-            command: Command::Numeral(0),
             next: first,
+            ..VACANT
         };
         let table = Table {
             places,

@@ -10,7 +10,7 @@ mod record;
 mod walk;
 mod walker;
 
-pub use arity::Arity;
+pub use arity::{Arity, TooManyParameters};
 pub use builder::Builder;
 pub use look::{each_place_is_reached_once, one_program_has_one_record};
 pub use record::Program;

@@ -4,22 +4,26 @@ ghost use Rattle.layout.specs.Walking.{opened, place_at};
 ghost use Rattle.syntax.specs.Code.{commands, end, parameters_of, sequences, source};
 ghost use Rattle.std.specs.Prelude.{◌≡◌};
 
-use super::arity::Arity;
+use super::arity::{Arity, TooManyParameters};
 use super::record::Program;
-use layout::{Command, PLACES, Place, Table};
+use layout::{PLACES, Place, Table, VACANT};
 use syntax::MOST_PARAMETERS;
 
-impl Arity {
-    // The count as an arity, unless it is above what a program may have.
-    pub fn new(count: u64) -> Option<Arity>
-        ensures { Counts count result }
-    {
-        if count > MOST_PARAMETERS as u64 {
-            return None;
-        }
-        Some(Arity { count: count as u8 })
-    }
+// A count as an arity, unless it is above what a program may have.
+impl TryFrom<u64> for Arity {
+    type Error = TooManyParameters;
 
+    ghost try_from_gives = { Counts };
+
+    fn try_from(count: u64) -> Result<Arity, TooManyParameters> {
+        match u8::try_from(count) {
+            Ok(count) if count <= MOST_PARAMETERS => Ok(Arity { count }),
+            _ => Err(TooManyParameters),
+        }
+    }
+}
+
+impl Arity {
     // The number of parameters.
     pub fn count(&self) -> u8
         ensures { result ≡ self.now.count }
@@ -33,13 +37,9 @@ impl Program {
     pub fn new() -> Program
         ensures { program_of result ≡ source 0 end }
     {
-        let vacant = Place {
-            command: Command::Numeral(0),
-            next: 0,
-        };
         Program {
             table: Table {
-                places: [vacant; PLACES],
+                places: [VACANT; PLACES],
                 commands: 0,
                 sequences: 0,
                 parameters: 0,

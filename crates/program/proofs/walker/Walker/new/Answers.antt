@@ -1,5 +1,5 @@
-use Rattle.std.proofs.Common.{◌≡◌, [], length, refl, ap, arith}
-use Rattle.stack.specs.Held.{held}
+-- A new walk has all of the program's events before it.
+use Rattle.std.proofs.Common.{[], length, ap, arith}
 use Rattle.syntax.specs.Events.{openings}
 use Rattle.syntax.proofs.Growing.{openings-onto, sequences_le}
 use Rattle.layout.specs.Tables.{at, tree}
@@ -7,21 +7,13 @@ use Rattle.layout.specs.Walking.{left_of}
 use Rattle.layout.proofs.Whole.{parts_of}
 use Rattle.program.proofs.walker.Walker.new.Goals as goal
 
-pub returns : goal.returns
+pub returns-clause-all : goal.returns-clause-all
 unfolding tree
-returns c =
-    let e = c.clear.ensures in
-    let all = ap (left_of c.args.program.now.table.places (at c.args.program.now.table.places 0).next) e.none in
-    let o = ap openings all in
-    let n : length (held c.clear.new.self) ≡ 0 = ap length e.none in
+returns-clause-all c = ap (left_of c.args.program.now.table.places (at c.args.program.now.table.places 0).next) c.new.ensures.none
+
+pub returns-clause-ample : goal.returns-clause-ample
+unfolding tree
+returns-clause-ample c = λ l.
+    let all = ap openings (ap (left_of c.args.program.now.table.places (at c.args.program.now.table.places 0).next) c.new.ensures.none) in
     let few = (parts_of c.args.program.now.table c.args.program.now.whole).few in
-    let size = e.size in
-    record {
-      all = all;
-      over = refl;
-      room = e.size;
-      outside = n;
-      ample = λ l. omega (arith, openings-onto (tree c.args.program.now.table) [], sequences_le (tree c.args.program.now.table));
-      same = refl;
-      places = e.same;
-    }
+    omega (arith, openings-onto (tree c.args.program.now.table) [], sequences_le (tree c.args.program.now.table), ap (λ xs. length xs) c.new.ensures.none)
