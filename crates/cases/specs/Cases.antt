@@ -1,12 +1,10 @@
 -- Texts, arguments, and what comes of them.
-use Rattle.std.specs.Prelude.{◌≡◌, ℕ, List, [], ◌∷◌, ℤ, pos, negsuc, codes}
+use Rattle.std.specs.Prelude.{◌≡◌, ℕ, List, [], ◌∷◌, ℤ, pos, negsuc, Ok, Err, codes}
 use Rattle.codes.specs.Codes.{fault_number}
 use Rattle.syntax.specs.Code.{Source}
 use Rattle.grammar.specs.Reading.{parse, taken}
-use Rattle.semantics.specs.declared.Outcome.{Outcome}
-use Rattle.semantics.specs.declared.Outcome.TheVariants.{Number, Fault}
 use Rattle.semantics.specs.declared.Run.{Run}
-use Rattle.semantics.specs.Meaning.{run}
+use Rattle.semantics.specs.Meaning.{Outcome, run}
 
 -- a text, read and run on some arguments: it gives a number, it does so in some steps, or it stops at a fault by its number
 pub data Case : Type 0 where
@@ -16,7 +14,7 @@ pub data Case : Type 0 where
 
 -- an outcome is the fault with this number
 abbrev pub StopsAt : ℕ → Outcome → Type 0
-StopsAt n (Number k) = ⊥
+StopsAt n (Ok k) = ⊥
 StopsAt n (Fault f) = fault_number f ≡ n
 
 -- a text is read as a program, whose run has a property
@@ -24,8 +22,8 @@ abbrev pub RunsSo : List ℕ → List ℤ → (Run → Type 0) → Type 0
 RunsSo text ks P = (p : Source) × (parse text ≡ taken p) × P (run p ks)
 
 abbrev pub Holds : Case → Type 0
-Holds (gives text ks k) = RunsSo text ks (λ r. r.outcome ≡ Number k)
-Holds (gives_in text ks k n) = RunsSo text ks (λ r. (r.outcome ≡ Number k) × (r.spent.steps ≡ n))
+Holds (gives text ks k) = RunsSo text ks (λ r. r.outcome ≡ Ok k)
+Holds (gives_in text ks k n) = RunsSo text ks (λ r. (r.outcome ≡ Ok k) × (r.spent.steps ≡ n))
 Holds (faults text ks n) = RunsSo text ks (λ r. StopsAt n r.outcome)
 
 abbrev pub AllHold : List Case → Type 0

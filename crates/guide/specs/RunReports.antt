@@ -7,10 +7,8 @@ use Rattle.codes.specs.Codes.{fault_text, refusal_text}
 use Rattle.syntax.specs.Code.{Source}
 use Rattle.grammar.specs.Reading.{Verdict, taken, refused}
 use Rattle.grammar.specs.Words.{Meaning, number, command, huge, strange, meaning}
-use Rattle.semantics.specs.declared.Outcome.{Outcome}
-use Rattle.semantics.specs.declared.Outcome.TheVariants.{Number, Fault as fault}
 use Rattle.semantics.specs.declared.Run.{Run}
-use Rattle.semantics.specs.Meaning.{run}
+use Rattle.semantics.specs.Meaning.{Outcome, run}
 use Rattle.guide.specs.declared.arguments.WrongArgument.{WrongArgument}
 use Rattle.guide.specs.declared.report.Report.{Report}
 use Rattle.guide.specs.Reports.{Told}
@@ -51,8 +49,8 @@ steps_text k = codes " in " ++ (decimal k ++ codes " steps\n")
 
 -- what a run came to, in so many steps
 abbrev pub outcome_line : Outcome → ℕ → List ℕ
-outcome_line (Number z) k = codes "result " ++ (signed_decimal z ++ steps_text k)
-outcome_line (fault f) k = codes "fault " ++ (fault_text f ++ steps_text k)
+outcome_line (Ok z) k = codes "result " ++ (signed_decimal z ++ steps_text k)
+outcome_line (Err f) k = codes "fault " ++ (fault_text f ++ steps_text k)
 
 -- the line of a run
 abbrev pub run_line : Run → List ℕ

@@ -3,7 +3,7 @@ ghost use Rattle.grammar.specs.Reading.{parse};
 ghost use Rattle.guide.specs.RunReports.{Ran, RunTold, arguments_of, outcome_line, run_line};
 ghost use Rattle.program.specs.Programs.{program_of};
 ghost use Rattle.semantics.specs.Meaning.{run};
-ghost use Rattle.std.specs.Prelude.{◌≡◌, map, IfOk, string_bytes};
+ghost use Rattle.std.specs.Prelude.{◌≡◌, map, IfOk, Ok, Err, string_bytes};
 
 use super::arguments::{arguments, wrong_argument};
 use super::report::{Report, refusal};
@@ -11,7 +11,7 @@ use codes::Fault;
 use interpreter::run;
 use program::Program;
 use reader::read;
-use semantics::{Outcome, Run, Value};
+use semantics::{Run, Value};
 use std::alloc::{AllocError, Global};
 use syntax::WORKING_PLACES;
 
@@ -61,21 +61,21 @@ fn outcome(heap: Global, ran: Run) -> Result<String, AllocError>
 {
     let steps = ran.spent.steps;
     match ran.outcome {
-        Outcome::Number(number) => result_line(heap, number, steps),
-        Outcome::Fault(fault) => fault_line(heap, fault, steps),
+        Ok(number) => result_line(heap, number, steps),
+        Err(fault) => fault_line(heap, fault, steps),
     }
 }
 
 // The line of a number.
 fn result_line(heap: Global, number: i32, steps: u32) -> Result<String, AllocError>
-    ensures { IfOk result (λ s. string_bytes s ≡ outcome_line (Outcome.Number number) steps) }
+    ensures { IfOk result (λ s. string_bytes s ≡ outcome_line (Ok number) steps) }
 {
     format!(in heap; "result {number} in {steps} steps\n")
 }
 
 // The line of a fault.
 fn fault_line(heap: Global, fault: Fault, steps: u32) -> Result<String, AllocError>
-    ensures { IfOk result (λ s. string_bytes s ≡ outcome_line (Outcome.Fault fault) steps) }
+    ensures { IfOk result (λ s. string_bytes s ≡ outcome_line (Err fault) steps) }
 {
     format!(in heap; "fault {fault} in {steps} steps\n")
 }

@@ -1,20 +1,21 @@
 -- What a run keeps from turn to turn.
-use Rattle.std.proofs.Common.{◌≡◌, ℕ, ◌+◌, ◌*◌, ◌<◌, ◌≤◌, List, [], ◌∷◌, length, ℤ, sym, refl, ap, ◌∙◌, arith}
+use Rattle.std.proofs.Common.{◌≡◌, ℕ, ◌+◌, ◌*◌, ◌<◌, ◌≤◌, List, [], ◌∷◌, length, ℤ, Ok, Err, Result, sym, refl, ap, ◌∙◌, subst, arith}
 use Rattle.codes.specs.declared.Fault.{Fault}
 use Rattle.syntax.specs.Bounds.{most_commands, most_parameters, working_places}
 use Rattle.syntax.specs.Code.{Code, end, append}
 use Rattle.syntax.proofs.Growing.{append-end}
-use Rattle.semantics.specs.declared.Outcome.{Outcome}
-use Rattle.semantics.specs.declared.Outcome.TheVariants.{Fault as fault}
 use Rattle.semantics.specs.declared.Spent.{Spent}
 use Rattle.semantics.specs.Commands.{Stack}
 use Rattle.semantics.specs.Denoting.{denotes}
 use Rattle.semantics.specs.Laws.{spent_of}
-use Rattle.semantics.specs.Meaning.{Course, done, stopped, one_step, spend, meaning, result, concluded, numbers}
+use Rattle.semantics.specs.Meaning.{Outcome, Course, done, stopped, one_step, spend, meaning, result, concluded, numbers}
 use Rattle.semantics.proofs.Courses.{spend-nothing, spend-spend, plus-nothing}
 use Rattle.semantics.proofs.Denoting.{result_denoted, numbers_denoted}
 use Rattle.semantics.proofs.Meanings.{clauses}
-use Rattle.interpreter.specs.declared.turning.Turn.TheVariants.{Ran, Returned, Ended, Stopped}
+use Rattle.program.specs.declared.record.Program.{Program}
+use Rattle.program.specs.Programs.{from}
+use Rattle.interpreter.specs.declared.turning.Turn.{Turn}
+use Rattle.interpreter.specs.declared.turning.Turn.TheVariants.{Ran, Returned, Ended}
 use Rattle.interpreter.specs.Turning.{chained, rest, Went}
 
 abbrev steps : ℕ → Spent
@@ -46,7 +47,7 @@ module _ (f : ℕ → Code) (all : Course) (v : ℕ) (vs : List ℕ) (s : Stack 
   pub room_for_a_chain : (room : ℕ) → working_places ≤ room → length vs < room
   room_for_a_chain room l = let n = h.chains in omega (arith, within)
 
-  pub ran : (w : ℕ) (ws : List ℕ) (t : Stack ℕ) → Went f v s vs (Ran w) t ws → Come f all w ws t (k + 1)
+  pub ran : (w : ℕ) (ws : List ℕ) (t : Stack ℕ) → Went f v s vs (Ok Ran) w t ws → Come f all w ws t (k + 1)
   ran w ws t (e, more, deeper) =
       let n = h.values in
       let m = h.chains in
@@ -57,29 +58,29 @@ module _ (f : ℕ → Code) (all : Course) (v : ℕ) (vs : List ℕ) (s : Stack 
         chains = omega arith;
       }
 
-  pub ran_falls : (w : ℕ) (ws : List ℕ) (t : Stack ℕ) → Went f v s vs (Ran w) t ws → 2 * left f w ws t + length ws < 2 * left f v vs s + length vs
+  pub ran_falls : (w : ℕ) (ws : List ℕ) (t : Stack ℕ) → Went f v s vs (Ok Ran) w t ws → 2 * left f w ws t + length ws < 2 * left f v vs s + length vs
   ran_falls w ws t (e, more, deeper) = let n = ap (λ (c : Course). (spent_of c).steps) e in omega (arith, spent_after one_step (rest f w ws t))
 
-  pub returned : (w : ℕ) (ws : List ℕ) (t : Stack ℕ) → Went f v s vs (Returned w) t ws → Come f all w ws t k
+  pub returned : (w : ℕ) (ws : List ℕ) (t : Stack ℕ) → Went f v s vs (Ok Returned) w t ws → Come f all w ws t k
   returned w ws t (e, same, fewer) =
       let n = h.values in
       let m = h.chains in
       let l = ap length same in
       record { course = h.course ∙ ap (spend (steps k)) e; few = h.few; values = omega arith; chains = omega arith }
 
-  pub returned_falls : (w : ℕ) (ws : List ℕ) (t : Stack ℕ) → Went f v s vs (Returned w) t ws → 2 * left f w ws t + length ws < 2 * left f v vs s + length vs
+  pub returned_falls : (w : ℕ) (ws : List ℕ) (t : Stack ℕ) → Went f v s vs (Ok Returned) w t ws → 2 * left f w ws t + length ws < 2 * left f v vs s + length vs
   returned_falls w ws t (e, same, fewer) = let n = ap (λ (c : Course). (spent_of c).steps) e in omega arith
 
-  pub ended : (ws : List ℕ) (t : Stack ℕ) → Went f v s vs Ended t ws → record { outcome = result t; spent = steps k } ≡ concluded all
-  ended ws t (e, same) =
+  pub ended : (w : ℕ) (ws : List ℕ) (t : Stack ℕ) → Went f v s vs (Ok Ended) w t ws → record { outcome = result t; spent = steps k } ≡ concluded all
+  ended w ws t (e, same) =
       let course : all ≡ done (denotes f s) (steps k) =
       h.course ∙ ap (λ (q : Code). spend (steps k) (meaning q (denotes f s))) e ∙ ap (spend (steps k)) (clauses.ends (denotes f s)) ∙ ap (done (denotes f s)) (plus-nothing (steps k)) in
       ap (λ (u : Stack ℕ). record { outcome = result u; spent = steps k }) same
       ∙ ap (λ (o : Outcome). record { outcome = o; spent = steps k }) (sym (result_denoted f s))
       ∙ ap concluded (sym course)
 
-  pub stopped_at : (g : Fault) (ws : List ℕ) (t : Stack ℕ) → Went f v s vs (Stopped g) t ws → record { outcome = fault g; spent = steps (k + 1) } ≡ concluded all
-  stopped_at g ws t e = ap concluded (sym (h.course ∙ ap (spend (steps k)) e))
+  pub stopped_at : (g : Fault) (w : ℕ) (ws : List ℕ) (t : Stack ℕ) → Went f v s vs (Err g) w t ws → record { outcome = Err g; spent = steps (k + 1) } ≡ concluded all
+  stopped_at g w ws t e = ap concluded (sym (h.course ∙ ap (spend (steps k)) e))
 
 -- at the start
 pub start : (f : ℕ → Code) (c : Code) (v : ℕ) (ks : List ℤ) (vs : List ℕ) (s : Stack ℕ) → f v ≡ c → vs ≡ [] → s ≡ numbers ks → length s ≤ most_parameters → (spent_of (meaning c (numbers ks))).steps ≤ most_commands
@@ -94,3 +95,7 @@ start f c v ks vs s e none args few l =
       values = omega arith;
       chains = let n = ap length none in omega arith;
     }
+
+-- a turn, said of the program that it is known to be over and of the answer that it is known to give
+pub said_of : (p q : Program) (v : ℕ) (s : Stack ℕ) (vs : List ℕ) (r x : Result Turn Fault) (w : ℕ) (t : Stack ℕ) (ws : List ℕ) → p ≡ q → r ≡ x → Went (from p) v s vs r w t ws → Went (from q) v s vs x w t ws
+said_of p q v s vs r x w t ws e f h = subst (λ (y : Result Turn Fault). Went (from q) v s vs y w t ws) f (subst (λ (z : Program). Went (from z) v s vs r w t ws) e h)

@@ -1,5 +1,5 @@
 -- What each kind of turn does to what remains.
-use Rattle.std.proofs.Common.{◌≡◌, ℕ, suc, ◌<◌, ◌≤◌, Bool, cond, ltb, List, [], ◌∷◌, length, ℤ, Ok, Err, sym, refl, ap, ◌∙◌, subst, arith}
+use Rattle.std.proofs.Common.{◌≡◌, ℕ, suc, ◌<◌, ◌≤◌, Bool, cond, ltb, List, [], ◌∷◌, length, ℤ, Some, None, Ok, Err, Result, sym, refl, ap, ◌∙◌, subst, arith}
 use Rattle.std.proofs.lemmas.Bool.{cond-true, lt-ltb}
 use Rattle.codes.specs.declared.Fault.{Fault}
 use Rattle.syntax.specs.declared.Name.{Name}
@@ -10,24 +10,24 @@ use Rattle.semantics.specs.Denoting.{denotes}
 use Rattle.semantics.specs.Meaning.{one_step, spend, meaning}
 use Rattle.semantics.proofs.Denoting.{effect_of, act_denoted, Fewer, act_fewer}
 use Rattle.semantics.proofs.Meanings.{clauses, name-next, name-enter, name-stop}
-use Rattle.operations.specs.declared.Next.TheVariants.{GoesOn, Enters}
 use Rattle.operations.specs.Acting.{answer_of, left_by}
-use Rattle.interpreter.specs.declared.turning.Turn.TheVariants.{Ran, Returned, Ended, Stopped}
+use Rattle.interpreter.specs.declared.turning.Turn.{Turn}
+use Rattle.interpreter.specs.declared.turning.Turn.TheVariants.{Ran, Returned, Ended}
 use Rattle.interpreter.specs.Turning.{chained, rest, Went}
 
 module _ (f : ℕ → Code) (v : ℕ) (s : Stack ℕ) (vs : List ℕ) where
   -- at the end of a chain
 
-  pub went_back : (w : ℕ) (t : Stack ℕ) (ws : List ℕ) → f v ≡ end → t ≡ s → vs ≡ w ∷ ws → Went f v s vs (Returned w) t ws
+  pub went_back : (w : ℕ) (t : Stack ℕ) (ws : List ℕ) → f v ≡ end → t ≡ s → vs ≡ w ∷ ws → Went f v s vs (Ok Returned) w t ws
   went_back w t ws e same more =
       (ap (λ (q : Code). meaning (append q (chained f vs)) (denotes f s)) e ∙ ap (λ (us : List ℕ). meaning (chained f us) (denotes f s)) more ∙ ap (λ (u : Stack ℕ). rest f w ws u) (sym same), same, ap length more)
 
-  pub went_to_the_end : (t : Stack ℕ) (ws : List ℕ) → f v ≡ end → t ≡ s → vs ≡ [] → Went f v s vs Ended t ws
-  went_to_the_end t ws e same none = (ap (λ (q : Code). append q (chained f vs)) e ∙ ap (chained f) none, same)
+  pub went_to_the_end : (w : ℕ) (t : Stack ℕ) (ws : List ℕ) → f v ≡ end → t ≡ s → vs ≡ [] → Went f v s vs (Ok Ended) w t ws
+  went_to_the_end w t ws e same none = (ap (λ (q : Code). append q (chained f vs)) e ∙ ap (chained f) none, same)
 
   -- what is pushed
 
-  pub went_by_numeral : (k : ℤ) (w : ℕ) (t : Stack ℕ) (ws : List ℕ) → f v ≡ numeral k (f w) → t ≡ Numeral k ∷ s → ws ≡ vs → Went f v s vs (Ran w) t ws
+  pub went_by_numeral : (k : ℤ) (w : ℕ) (t : Stack ℕ) (ws : List ℕ) → f v ≡ numeral k (f w) → t ≡ Numeral k ∷ s → ws ≡ vs → Went f v s vs (Ok Ran) w t ws
   went_by_numeral k w t ws e more same = (
     ap (λ (q : Code). meaning (append q (chained f vs)) (denotes f s)) e
         ∙ clauses.numerals k (append (f w) (chained f vs)) (denotes f s)
@@ -37,7 +37,7 @@ module _ (f : ℕ → Code) (v : ℕ) (s : Stack ℕ) (vs : List ℕ) where
     (let n = ap length same in omega arith),
   )
 
-  pub went_by_sequence : (a w : ℕ) (t : Stack ℕ) (ws : List ℕ) → f v ≡ sequence (f a) (f w) → t ≡ Sequence a ∷ s → ws ≡ vs → Went f v s vs (Ran w) t ws
+  pub went_by_sequence : (a w : ℕ) (t : Stack ℕ) (ws : List ℕ) → f v ≡ sequence (f a) (f w) → t ≡ Sequence a ∷ s → ws ≡ vs → Went f v s vs (Ok Ran) w t ws
   went_by_sequence a w t ws e more same = (
     ap (λ (q : Code). meaning (append q (chained f vs)) (denotes f s)) e
         ∙ clauses.sequences (f a) (append (f w) (chained f vs)) (denotes f s)
@@ -52,22 +52,22 @@ module _ (f : ℕ → Code) (v : ℕ) (s : Stack ℕ) (vs : List ℕ) where
   on : (o : Name) (x : Effect ℕ) → act o s ≡ x → act o (denotes f s) ≡ effect_of f x
   on o x e = act_denoted f o s ∙ ap (effect_of f) e
 
-  to_next : (x : Effect ℕ) → Ok GoesOn ≡ answer_of x → x ≡ next (left_by x s)
+  to_next : (x : Effect ℕ) → Ok None ≡ answer_of x → x ≡ next (left_by x s)
   to_next (next t) e = refl
-  to_next (enter a t) e = let no : ◌≡◌ {A = ℕ} 0 1 = cc in absurd (omega arith)
-  to_next (stop g) e = let no : ◌≡◌ {A = ℕ} 0 1 = cc in absurd (omega arith)
+  to_next (enter a t) e = cc
+  to_next (stop g) e = cc
 
-  to_enter : (x : Effect ℕ) (a : ℕ) → Ok (Enters a) ≡ answer_of x → x ≡ enter a (left_by x s)
-  to_enter (next t) a e = let no : ◌≡◌ {A = ℕ} 0 1 = cc in absurd (omega arith)
+  to_enter : (x : Effect ℕ) (a : ℕ) → Ok (Some a) ≡ answer_of x → x ≡ enter a (left_by x s)
+  to_enter (next t) a e = cc
   to_enter (enter b t) a e = let same : b ≡ a = cc in ap (λ (c : ℕ). enter c t) same
-  to_enter (stop g) a e = let no : ◌≡◌ {A = ℕ} 0 1 = cc in absurd (omega arith)
+  to_enter (stop g) a e = cc
 
   to_stop : (x : Effect ℕ) (g : Fault) → Err g ≡ answer_of x → x ≡ stop g
-  to_stop (next t) g e = let no : ◌≡◌ {A = ℕ} 0 1 = cc in absurd (omega arith)
-  to_stop (enter b t) g e = let no : ◌≡◌ {A = ℕ} 0 1 = cc in absurd (omega arith)
+  to_stop (next t) g e = cc
+  to_stop (enter b t) g e = cc
   to_stop (stop h) g e = let same : h ≡ g = cc in ap stop same
 
-  pub went_by_name : (o : Name) (w : ℕ) (t : Stack ℕ) (ws : List ℕ) → f v ≡ name o (f w) → Ok GoesOn ≡ answer_of (act o s) → t ≡ left_by (act o s) s → ws ≡ vs → Went f v s vs (Ran w) t ws
+  pub went_by_name : (o : Name) (w : ℕ) (t : Stack ℕ) (ws : List ℕ) → f v ≡ name o (f w) → Ok None ≡ answer_of (act o s) → t ≡ left_by (act o s) s → ws ≡ vs → Went f v s vs (Ok Ran) w t ws
   went_by_name o w t ws e answer left same =
       let x : act o s ≡ next t = to_next (act o s) answer ∙ ap next (sym left) in (
         ap (λ (q : Code). meaning (append q (chained f vs)) (denotes f s)) e
@@ -77,7 +77,7 @@ module _ (f : ℕ → Code) (v : ℕ) (s : Stack ℕ) (vs : List ℕ) where
         (let n = ap length same in omega arith),
       )
 
-  pub went_inside : (o : Name) (a w : ℕ) (t : Stack ℕ) (ws : List ℕ) → f v ≡ name o (f w) → Ok (Enters a) ≡ answer_of (act o s) → t ≡ left_by (act o s) s → ws ≡ w ∷ vs → Went f v s vs (Ran a) t ws
+  pub went_inside : (o : Name) (a w : ℕ) (t : Stack ℕ) (ws : List ℕ) → f v ≡ name o (f w) → Ok (Some a) ≡ answer_of (act o s) → t ≡ left_by (act o s) s → ws ≡ w ∷ vs → Went f v s vs (Ok Ran) a t ws
   went_inside o a w t ws e answer left more =
       let x : act o s ≡ enter a t = to_enter (act o s) a answer ∙ ap (enter a) (sym left) in (
         ap (λ (q : Code). meaning (append q (chained f vs)) (denotes f s)) e
@@ -87,11 +87,12 @@ module _ (f : ℕ → Code) (v : ℕ) (s : Stack ℕ) (vs : List ℕ) where
         (let n = ap length more in omega arith),
       )
 
-  pub went_wrong : (o : Name) (w : ℕ) (g : Fault) (t : Stack ℕ) (ws : List ℕ) → f v ≡ name o (f w) → Err g ≡ answer_of (act o s) → Went f v s vs (Stopped g) t ws
-  went_wrong o w g t ws e answer =
+  pub went_wrong : (o : Name) (u w : ℕ) (g : Fault) (t : Stack ℕ) (ws : List ℕ) (r : Result Turn Fault) → f v ≡ name o (f u) → Err g ≡ answer_of (act o s) → r ≡ Err g → Went f v s vs r w t ws
+  went_wrong o u w g t ws r e answer wrong =
       let x : act o s ≡ stop g = to_stop (act o s) g answer in
+      subst (λ (q : Result Turn Fault). Went f v s vs q w t ws) (sym wrong) (
       ap (λ (q : Code). meaning (append q (chained f vs)) (denotes f s)) e
-      ∙ name-stop o (append (f w) (chained f vs)) (denotes f s) g (on o (stop g) x)
+      ∙ name-stop o (append (f u) (chained f vs)) (denotes f s) g (on o (stop g) x))
 
 -- a push that finds room
 pub grown : {X : Type 0} (r : Bool) (x : X) (old new : List X) (n room : ℕ) → r ≡ ltb n room → new ≡ cond r (x ∷ old) old → n < room → new ≡ x ∷ old

@@ -1,5 +1,5 @@
 -- What names come to on a stack that was looked at.
-use Rattle.std.proofs.Common.{◌≡◌, ℕ, ◌<◌, Bool, eqb, List, ◌∷◌, length, ℤ, pos, negsuc, nat_abs, Some, Ok, sym, ap, ◌∙◌, arith}
+use Rattle.std.proofs.Common.{◌≡◌, ℕ, ◌<◌, Bool, eqb, List, ◌∷◌, length, ℤ, pos, negsuc, nat_abs, Some, None, Ok, sym, ap, ◌∙◌, arith}
 use Rattle.std.proofs.lemmas.Bool.{cond-true, cond-false, eq-eqb, ne_eqb}
 use Rattle.stack.specs.declared.Stack.{Stack}
 use Rattle.stack.specs.Held.{held, room}
@@ -10,12 +10,11 @@ use Rattle.syntax.specs.declared.Name.TheVariants.{Operator as operator, Nget, S
 use Rattle.semantics.specs.declared.Value.{Value}
 use Rattle.semantics.specs.declared.Value.TheVariants.{Numeral, Sequence}
 use Rattle.semantics.specs.Commands.{next, act, compute, settle, operate, select, chosen, counted, copy, fetch}
-use Rattle.operations.specs.declared.Next.TheVariants.{GoesOn}
 use Rattle.operations.specs.Acting.{Applied, answer_of, left_by, number_in}
 use Rattle.operations.proofs.Stacks.{Pushed, one_of, two_of, three_of, pushes}
 
 -- a name whose last move is a push onto fewer values than there were
-pub puts : (n : Name) (s p t : Stack (Value ℕ)) (x : Value ℕ) (xs : List (Value ℕ)) (b : Bool) → act n (held s) ≡ next (x ∷ xs) → held p ≡ xs → length xs < length (held s) → room p ≡ room s → p.places.ghost_name ≡ s.places.ghost_name → Pushed p t x b → Applied n s t (Ok GoesOn)
+pub puts : (n : Name) (s p t : Stack (Value ℕ)) (x : Value ℕ) (xs : List (Value ℕ)) (b : Bool) → act n (held s) ≡ next (x ∷ xs) → held p ≡ xs → length xs < length (held s) → room p ≡ room s → p.places.ghost_name ≡ s.places.ghost_name → Pushed p t x b → Applied n s t (Ok None)
 puts n s p t x xs b e rest less size same push =
     let short = ap length rest in
     let top = pushes s p t x b (omega arith) size push ∙ ap (λ (l : List (Value ℕ)). x ∷ l) rest in

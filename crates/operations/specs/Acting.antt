@@ -8,13 +8,11 @@ use Rattle.syntax.specs.declared.Name.{Name}
 use Rattle.semantics.specs.declared.Value.{Value}
 use Rattle.semantics.specs.declared.Value.TheVariants.{Numeral, Sequence}
 use Rattle.semantics.specs.Commands.{Effect, next, enter, stop, act}
-use Rattle.operations.specs.declared.Next.{Next}
-use Rattle.operations.specs.declared.Next.TheVariants.{GoesOn, Enters}
 
--- how a machine goes on, or the fault at which it stops
-abbrev pub answer_of : Effect ℕ → Result Next Fault
-answer_of (next s) = Ok GoesOn
-answer_of (enter q s) = Ok (Enters q)
+-- the sequence that a machine enters then, if it enters one, or the fault at which it stops
+abbrev pub answer_of : Effect ℕ → Result (Option ℕ) Fault
+answer_of (next s) = Ok None
+answer_of (enter q s) = Ok (Some q)
 answer_of (stop f) = Err f
 
 -- what the stack holds then: a fault leaves it as it was
@@ -24,7 +22,7 @@ left_by (enter q s) old = s
 left_by (stop f) old = old
 
 -- a call that applies a name: its answer, what the stack holds, and that the stack stands over the same places
-pub record Applied (n : Name) (before after : Stack (Value ℕ)) (r : Result Next Fault) : Type 0 where
+pub record Applied (n : Name) (before after : Stack (Value ℕ)) (r : Result (Option ℕ) Fault) : Type 0 where
   pub answer : r ≡ answer_of (act n (held before))
   pub values : held after ≡ left_by (act n (held before)) (held before)
   pub size : room after ≡ room before

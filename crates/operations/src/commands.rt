@@ -5,7 +5,6 @@ ghost use Rattle.stack.specs.Held.{held};
 ghost use Rattle.stack.specs.Items.{tail_of};
 ghost use Rattle.std.specs.Prelude.{◌≡◌};
 
-use super::Next;
 use super::operators::compute;
 use codes::Fault;
 use semantics::Value;
@@ -13,7 +12,10 @@ use stack::Stack;
 use syntax::{Name, Operator};
 
 // An operator takes two numerals and puts one; the one on top is its right side.
-pub(crate) fn operate(operator: Operator, values: &mut Stack<Value<u16>>) -> Result<Next, Fault>
+pub(crate) fn operate(
+    operator: Operator,
+    values: &mut Stack<Value<u16>>,
+) -> Result<Option<u16>, Fault>
     ensures { Applied (Name.Operator operator) values.old values.new result }
 {
     let first = values.get(0).ok_or(Fault::Underflow)?;
@@ -24,19 +26,19 @@ pub(crate) fn operate(operator: Operator, values: &mut Stack<Value<u16>>) -> Res
     values.pop();
     values.pop();
     values.push(Value::Numeral(result));
-    Ok(Next::GoesOn)
+    Ok(None)
 }
 
 // The top value is taken away.
-pub(crate) fn pop(values: &mut Stack<Value<u16>>) -> Result<Next, Fault>
+pub(crate) fn pop(values: &mut Stack<Value<u16>>) -> Result<Option<u16>, Fault>
     ensures { Applied Name.Pop values.old values.new result }
 {
     values.pop().ok_or(Fault::Underflow)?;
-    Ok(Next::GoesOn)
+    Ok(None)
 }
 
 // The two values on top change places.
-pub(crate) fn swap(values: &mut Stack<Value<u16>>) -> Result<Next, Fault>
+pub(crate) fn swap(values: &mut Stack<Value<u16>>) -> Result<Option<u16>, Fault>
     ensures { Applied Name.Swap values.old values.new result }
 {
     let first = values.get(0).ok_or(Fault::Underflow)?;
@@ -45,11 +47,11 @@ pub(crate) fn swap(values: &mut Stack<Value<u16>>) -> Result<Next, Fault>
     values.pop();
     values.push(first);
     values.push(second);
-    Ok(Next::GoesOn)
+    Ok(None)
 }
 
 // Of three values the first is kept where the third is 0, else the second.
-pub(crate) fn sel(values: &mut Stack<Value<u16>>) -> Result<Next, Fault>
+pub(crate) fn sel(values: &mut Stack<Value<u16>>) -> Result<Option<u16>, Fault>
     ensures { Applied Name.Sel values.old values.new result }
 {
     let first = values.get(0).ok_or(Fault::Underflow)?;
@@ -61,11 +63,11 @@ pub(crate) fn sel(values: &mut Stack<Value<u16>>) -> Result<Next, Fault>
     values.pop();
     values.pop();
     values.push(chosen);
-    Ok(Next::GoesOn)
+    Ok(None)
 }
 
 // An index is taken, and the numeral that it counts to is copied to the top.
-pub(crate) fn nget(values: &mut Stack<Value<u16>>) -> Result<Next, Fault>
+pub(crate) fn nget(values: &mut Stack<Value<u16>>) -> Result<Option<u16>, Fault>
     ensures { Applied Name.Nget values.old values.new result }
 {
     let first = values.get(0).ok_or(Fault::Underflow)?;
@@ -74,17 +76,17 @@ pub(crate) fn nget(values: &mut Stack<Value<u16>>) -> Result<Next, Fault>
     let copy = number(found)?;
     values.pop();
     values.push(Value::Numeral(copy));
-    Ok(Next::GoesOn)
+    Ok(None)
 }
 
 // A sequence is taken and entered.
-pub(crate) fn exec(values: &mut Stack<Value<u16>>) -> Result<Next, Fault>
+pub(crate) fn exec(values: &mut Stack<Value<u16>>) -> Result<Option<u16>, Fault>
     ensures { Applied Name.Exec values.old values.new result }
 {
     match values.get(0).ok_or(Fault::Underflow)? {
         Value::Sequence(sequence) => {
             values.pop();
-            Ok(Next::Enters(sequence))
+            Ok(Some(sequence))
         }
         Value::Numeral(_) => Err(Fault::NoSequence),
     }

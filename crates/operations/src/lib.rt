@@ -18,15 +18,9 @@ mod operators;
 #[cfg(test)]
 mod tests;
 
-// How a machine goes on after a name: with what follows, or with the sequence that this stands for.
-#[derive(Clone, Copy, PartialEq, Eq, Debug)]
-pub enum Next {
-    GoesOn,
-    Enters(u16),
-}
-
-// Applies a name to the values. A fault leaves them as they were.
-pub fn apply(command: Name, values: &mut Stack<Value<u16>>) -> Result<Next, Fault>
+// Applies a name to the values, and gives the sequence that a machine enters then, if it enters one. A fault leaves the
+// values as they were.
+pub fn apply(command: Name, values: &mut Stack<Value<u16>>) -> Result<Option<u16>, Fault>
     ensures answer { result ≡ answer_of (act command (held values.old)) }
     ensures values { held values.new ≡ left_by (act command (held values.old)) (held values.old) }
     ensures size { room values.new ≡ room values.old }
@@ -47,8 +41,8 @@ pub fn result(values: &Stack<Value<u16>>) -> Outcome
     ensures { result ≡ outcome_of (held values.now) }
 {
     match values.get(0) {
-        Some(Value::Numeral(number)) => Outcome::Number(number),
-        Some(Value::Sequence(_)) => Outcome::Fault(Fault::SequenceOnTop),
-        None => Outcome::Fault(Fault::Empty),
+        Some(Value::Numeral(number)) => Ok(number),
+        Some(Value::Sequence(_)) => Err(Fault::SequenceOnTop),
+        None => Err(Fault::Empty),
     }
 }

@@ -16,7 +16,7 @@ fn gives(
     rt: &impl Abort,
     name: Name,
     given: &[Value<u16>],
-    answer: Result<Next, Fault>,
+    answer: Result<Option<u16>, Fault>,
     left: &[Value<u16>],
 ) {
     let mut places = [BODY; 3];
@@ -50,7 +50,7 @@ fn operators_look_at_count_then_kind_then_divisor(rt: HostRuntime) {
         &rt,
         Name::Operator(Operator::Sub),
         &[BODY, numeral(5), numeral(3)],
-        Ok(Next::GoesOn),
+        Ok(None),
         &[BODY, numeral(2)],
     );
 }
@@ -67,7 +67,7 @@ fn nget_looks_at_four_conditions(rt: HostRuntime) {
         &rt,
         Name::Nget,
         &[numeral(9), BODY, numeral(2)],
-        Ok(Next::GoesOn),
+        Ok(None),
         &[numeral(9), BODY, numeral(9)],
     );
 }
@@ -85,21 +85,21 @@ fn sel_keeps_the_first_where_the_third_is_zero(rt: HostRuntime) {
         &rt,
         Name::Sel,
         &[numeral(0), numeral(2), BODY],
-        Ok(Next::GoesOn),
+        Ok(None),
         &[BODY],
     );
     gives(
         &rt,
         Name::Sel,
         &[numeral(3), numeral(2), BODY],
-        Ok(Next::GoesOn),
+        Ok(None),
         &[numeral(2)],
     );
     gives(
         &rt,
         Name::Sel,
         &[numeral(-1), BODY, numeral(1)],
-        Ok(Next::GoesOn),
+        Ok(None),
         &[BODY],
     );
 }
@@ -107,13 +107,13 @@ fn sel_keeps_the_first_where_the_third_is_zero(rt: HostRuntime) {
 #[test]
 fn the_others_at_their_edges(rt: HostRuntime) {
     stops(&rt, Name::Pop, &[], Fault::Underflow);
-    gives(&rt, Name::Pop, &[BODY], Ok(Next::GoesOn), &[]);
+    gives(&rt, Name::Pop, &[BODY], Ok(None), &[]);
     stops(&rt, Name::Swap, &[BODY], Fault::Underflow);
     gives(
         &rt,
         Name::Swap,
         &[numeral(3), numeral(2), BODY],
-        Ok(Next::GoesOn),
+        Ok(None),
         &[numeral(3), BODY, numeral(2)],
     );
     stops(&rt, Name::Exec, &[], Fault::Underflow);
@@ -122,7 +122,7 @@ fn the_others_at_their_edges(rt: HostRuntime) {
         &rt,
         Name::Exec,
         &[numeral(7), BODY],
-        Ok(Next::Enters(7)),
+        Ok(Some(7)),
         &[numeral(7)],
     );
 }
@@ -143,9 +143,9 @@ fn numbers_at_the_edges(rt: HostRuntime) {
 fn results_are_on_top(rt: HostRuntime) {
     let mut places = [BODY; 2];
     let mut values = Stack::new(&mut places);
-    assert_eq!(rt; result(&values), Outcome::Fault(Fault::Empty));
+    assert_eq!(rt; result(&values), Err(Fault::Empty));
     assert!(rt; values.push(numeral(3)));
-    assert_eq!(rt; result(&values), Outcome::Number(3));
+    assert_eq!(rt; result(&values), Ok(3));
     assert!(rt; values.push(BODY));
-    assert_eq!(rt; result(&values), Outcome::Fault(Fault::SequenceOnTop));
+    assert_eq!(rt; result(&values), Err(Fault::SequenceOnTop));
 }

@@ -1,12 +1,11 @@
 -- Every run ends as the meaning says.
-use Rattle.std.proofs.Common.{◌≡◌, ℕ, zero, suc, ◌+◌, ◌≤◌, eqb, List, [], ◌∷◌, length, ℤ, sym, refl, ap, ◌∙◌, subst, arith}
+use Rattle.std.proofs.Common.{◌≡◌, ℕ, zero, suc, ◌+◌, ◌≤◌, eqb, List, [], ◌∷◌, length, ℤ, Err, sym, refl, ap, ◌∙◌, subst, arith}
 use Rattle.std.proofs.lemmas.Bool.{cond_both, cond-true, cond-false, eqb-true, eqb-false, eq-eqb, ne_eqb}
 use Rattle.codes.specs.declared.Fault.TheVariants.{Arguments}
 use Rattle.syntax.specs.declared.Name.{Name}
 use Rattle.syntax.specs.Code.{Code, end, numeral, name, sequence, append, commands, Source, source, code_of}
 use Rattle.syntax.proofs.Growing.{commands-append}
 use Rattle.semantics.specs.declared.Value.TheVariants.{Numeral, Sequence}
-use Rattle.semantics.specs.declared.Outcome.TheVariants.{Fault as fault}
 use Rattle.semantics.specs.declared.Spent.{Spent}
 use Rattle.semantics.specs.declared.Run.{Run}
 use Rattle.semantics.specs.Commands.{Stack, Effect, next, enter, stop, act}
@@ -45,7 +44,7 @@ only q s c (stops {o} {q = p} {f} e) = sym (name-stop o p s f e)
 -- programs
 
 abbrev refused : Run
-refused = record { outcome = fault Arguments; spent = nothing }
+refused = record { outcome = Err Arguments; spent = nothing }
 
 by_course : (n : ℕ) (c : Code) (ks : List ℤ) (x : Course) → length ks ≡ n → Runs c (numbers ks) x → Ends (source n c) ks (concluded x)
 by_course n c ks (done [] x) e r = empty e r

@@ -13,13 +13,11 @@ use Rattle.syntax.specs.declared.Operator.TheVariants.{Add, Div, Eq, Gt, Lt, Mul
 use Rattle.syntax.specs.declared.Name.{Name}
 use Rattle.syntax.specs.Code.{Code, end, numeral, name, sequence, append, Ranged, Source, code_of}
 use Rattle.semantics.specs.declared.Value.TheVariants.{Numeral, Sequence}
-use Rattle.semantics.specs.declared.Outcome.{Outcome}
-use Rattle.semantics.specs.declared.Outcome.TheVariants.{Number, Fault as fault}
 use Rattle.semantics.specs.declared.Spent.{Spent}
 use Rattle.semantics.specs.declared.Run.{Run}
 use Rattle.semantics.proofs.Alike.{numerals, sequences, Alikes, none, more}
 use Rattle.semantics.specs.Commands.{Stack, Effect, next, enter, stop, truth, quotient_in, remainder_in, compute, act}
-use Rattle.semantics.specs.Meaning.{Course, done, stopped, spend, meaning, numbers, run}
+use Rattle.semantics.specs.Meaning.{Outcome, Course, done, stopped, spend, meaning, numbers, run}
 use Rattle.semantics.specs.Running.{Runs, ends, pushes_numeral, pushes_sequence, goes_on, enters, stops, Ends, wrong_count, number, empty, sequence_on_top, faulted}
 use Rattle.semantics.specs.Laws.{Within, NumbersWithin, StaysInRange}
 use Rattle.semantics.proofs.Acts.{Closed, Likes, nexts, enters as enters_alike, stops as stops_alike, acts}
@@ -30,11 +28,11 @@ abbrev pub InRange : ℤ → Type 0
 InRange k = in_range k ≡ true
 
 -- what an operator gives, if it gives anything
-abbrev Given : Result ℤ Fault → Type 0
+abbrev Given : Outcome → Type 0
 Given (Ok k) = InRange k
 Given (Err f) = Unit {0}
 
-given : (x : Result ℤ Fault) (k : ℤ) → x ≡ Ok k → Given x → InRange k
+given : (x : Outcome) (k : ℤ) → x ≡ Ok k → Given x → InRange k
 given x k e h = subst Given e h
 
 truth-in_range : (b : Bool) → InRange (truth b)
@@ -117,8 +115,8 @@ numbers_are_within (k ∷ ks) h = (h.0, numbers_are_within ks h.1)
 
 -- what a program gives
 abbrev InOutcome : Outcome → Type 0
-InOutcome (Number k) = InRange k
-InOutcome (fault f) = Unit {0}
+InOutcome (Ok k) = InRange k
+InOutcome (Err f) = Unit {0}
 
 gives : (p : Source) (ks : List ℤ) (r : Run) → Ends p ks r → Ranged (code_of p) → NumbersWithin ks → InOutcome r.outcome
 gives p ks r (wrong_count d) h w = tt

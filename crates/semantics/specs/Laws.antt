@@ -1,11 +1,10 @@
 -- What holds of every run.
-use Rattle.std.specs.Prelude.{◌≡◌, ◌+◌, ◌≤◌, true, List, [], ◌∷◌, ℤ}
+use Rattle.std.specs.Prelude.{◌≡◌, ◌+◌, ◌≤◌, true, List, [], ◌∷◌, ℤ, Ok}
 use Rattle.arithmetic.specs.Numbers.{in_range}
 use Rattle.syntax.specs.declared.Name.{Name}
 use Rattle.syntax.specs.declared.Name.TheVariants.{Exec}
 use Rattle.syntax.specs.Code.{Code, end, numeral, name, sequence, append, commands, Ranged, Source, code_of}
 use Rattle.semantics.specs.declared.Value.TheVariants.{Numeral, Sequence}
-use Rattle.semantics.specs.declared.Outcome.TheVariants.{Number}
 use Rattle.semantics.specs.declared.Spent.{Spent}
 use Rattle.semantics.specs.declared.Run.{Run}
 use Rattle.semantics.specs.Commands.{Stack}
@@ -63,4 +62,4 @@ NumbersWithin (k ∷ ks) = (in_range k ≡ true) × NumbersWithin ks
 -- numbers stay within the range: on every stack, and in what a program gives
 pub record StaysInRange : Type 0 where
   pub chains : (q : Code) (s t : Stack Code) (x : Spent) → Ranged q → Within s → meaning q s ≡ done t x → Within t
-  pub programs : (p : Source) (ks : List ℤ) (k : ℤ) → Ranged (code_of p) → NumbersWithin ks → (run p ks).outcome ≡ Number k → in_range k ≡ true
+  pub programs : (p : Source) (ks : List ℤ) (k : ℤ) → Ranged (code_of p) → NumbersWithin ks → (run p ks).outcome ≡ Ok k → in_range k ≡ true

@@ -1,13 +1,11 @@
 -- What a chain of commands means: a transformer of stacks, with what its run spends; and what a program means.
-use Rattle.std.specs.Prelude.{ℕ, zero, suc, ◌+◌, cond, List, [], ◌∷◌, map, length, ℤ, ◌==◌}
+use Rattle.std.specs.Prelude.{ℕ, zero, suc, ◌+◌, cond, List, [], ◌∷◌, map, length, ℤ, Ok, Err, Result, ◌==◌}
 use Rattle.codes.specs.declared.Fault.{Fault}
 use Rattle.codes.specs.declared.Fault.TheVariants.{Arguments, Empty, SequenceOnTop}
 use Rattle.syntax.specs.declared.Name.{Name}
 use Rattle.syntax.specs.Code.{Code, end, numeral, name, sequence, commands, Source, source}
 use Rattle.semantics.specs.declared.Value.{Value}
 use Rattle.semantics.specs.declared.Value.TheVariants.{Numeral, Sequence}
-use Rattle.semantics.specs.declared.Outcome.{Outcome}
-use Rattle.semantics.specs.declared.Outcome.TheVariants.{Number, Fault as fault}
 use Rattle.semantics.specs.declared.Spent.{Spent}
 use Rattle.semantics.specs.declared.Run.{Run}
 use Rattle.semantics.specs.Commands.{Stack, Effect, next, enter, stop, act}
@@ -88,15 +86,19 @@ meaning q s = within (commands q + stacked s) q s
 
 -- 5. programs
 
+-- what a run comes to: a number, or the fault at which it stopped
+abbrev pub Outcome : Type 0
+Outcome = Result ℤ Fault
+
 -- what the last command leaves: the number on top, unless nothing or a sequence is there
 abbrev pub result : {A : Type 0} → Stack A → Outcome
-result [] = fault Empty
-result (Numeral k ∷ s) = Number k
-result (Sequence q ∷ s) = fault SequenceOnTop
+result [] = Err Empty
+result (Numeral k ∷ s) = Ok k
+result (Sequence q ∷ s) = Err SequenceOnTop
 
 abbrev pub concluded : Course → Run
 concluded (done s x) = record { outcome = result s; spent = x }
-concluded (stopped f x) = record { outcome = fault f; spent = x }
+concluded (stopped f x) = record { outcome = Err f; spent = x }
 
 -- numbers as a stack, the first on top
 abbrev pub numbers : {A : Type 0} → List ℤ → Stack A
@@ -104,4 +106,4 @@ numbers ks = map Numeral ks
 
 -- a program on its arguments; another number of arguments than it has parameters is a fault, and nothing is run
 unfoldable pub run : Source → List ℤ → Run
-run (source n c) ks = cond (length ks == n) (concluded (meaning c (numbers ks))) (record { outcome = fault Arguments; spent = nothing })
+run (source n c) ks = cond (length ks == n) (concluded (meaning c (numbers ks))) (record { outcome = Err Arguments; spent = nothing })

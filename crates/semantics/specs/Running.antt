@@ -1,12 +1,11 @@
 -- How a run goes on, one command at a time, and how it may end: what remains to run is one chain, and a sequence that is
 -- entered comes before the rest.
-use Rattle.std.specs.Prelude.{◌≡◌, ℕ, List, [], ◌∷◌, length, ℤ, ◌≢◌}
+use Rattle.std.specs.Prelude.{◌≡◌, ℕ, List, [], ◌∷◌, length, ℤ, Ok, Err, ◌≢◌}
 use Rattle.codes.specs.declared.Fault.{Fault}
 use Rattle.codes.specs.declared.Fault.TheVariants.{Arguments, Empty, SequenceOnTop}
 use Rattle.syntax.specs.declared.Name.{Name}
 use Rattle.syntax.specs.Code.{Code, end, numeral, name, sequence, append, Source, source}
 use Rattle.semantics.specs.declared.Value.TheVariants.{Numeral, Sequence}
-use Rattle.semantics.specs.declared.Outcome.TheVariants.{Number, Fault as fault}
 use Rattle.semantics.specs.declared.Spent.{Spent}
 use Rattle.semantics.specs.declared.Run.{Run}
 use Rattle.semantics.specs.Commands.{Stack, next, enter, stop, act}
@@ -23,8 +22,8 @@ pub data Runs : Code → Stack Code → Course → Type 0 where
 
 -- a program runs on its arguments and ends so: not at all, with the number on top, with nothing or a sequence there, or at a fault
 pub data Ends : Source → List ℤ → Run → Type 0 where
-  wrong_count : {n : ℕ} {c : Code} {ks : List ℤ} → (length ks ≢ n) → Ends (source n c) ks (record { outcome = fault Arguments; spent = nothing })
-  number : {n : ℕ} {c : Code} {ks : List ℤ} {k : ℤ} {s : Stack Code} {x : Spent} → length ks ≡ n → Runs c (numbers ks) (done (Numeral k ∷ s) x) → Ends (source n c) ks (record { outcome = Number k; spent = x })
-  empty : {n : ℕ} {c : Code} {ks : List ℤ} {x : Spent} → length ks ≡ n → Runs c (numbers ks) (done [] x) → Ends (source n c) ks (record { outcome = fault Empty; spent = x })
-  sequence_on_top : {n : ℕ} {c b : Code} {ks : List ℤ} {s : Stack Code} {x : Spent} → length ks ≡ n → Runs c (numbers ks) (done (Sequence b ∷ s) x) → Ends (source n c) ks (record { outcome = fault SequenceOnTop; spent = x })
-  faulted : {n : ℕ} {c : Code} {ks : List ℤ} {f : Fault} {x : Spent} → length ks ≡ n → Runs c (numbers ks) (stopped f x) → Ends (source n c) ks (record { outcome = fault f; spent = x })
+  wrong_count : {n : ℕ} {c : Code} {ks : List ℤ} → (length ks ≢ n) → Ends (source n c) ks (record { outcome = Err Arguments; spent = nothing })
+  number : {n : ℕ} {c : Code} {ks : List ℤ} {k : ℤ} {s : Stack Code} {x : Spent} → length ks ≡ n → Runs c (numbers ks) (done (Numeral k ∷ s) x) → Ends (source n c) ks (record { outcome = Ok k; spent = x })
+  empty : {n : ℕ} {c : Code} {ks : List ℤ} {x : Spent} → length ks ≡ n → Runs c (numbers ks) (done [] x) → Ends (source n c) ks (record { outcome = Err Empty; spent = x })
+  sequence_on_top : {n : ℕ} {c b : Code} {ks : List ℤ} {s : Stack Code} {x : Spent} → length ks ≡ n → Runs c (numbers ks) (done (Sequence b ∷ s) x) → Ends (source n c) ks (record { outcome = Err SequenceOnTop; spent = x })
+  faulted : {n : ℕ} {c : Code} {ks : List ℤ} {f : Fault} {x : Spent} → length ks ≡ n → Runs c (numbers ks) (stopped f x) → Ends (source n c) ks (record { outcome = Err f; spent = x })

@@ -14,11 +14,7 @@ pub enum Value<S> {
 }
 
 // What a run comes to: a number, or the fault at which it stopped.
-#[derive(Clone, Copy, PartialEq, Eq, Debug)]
-pub enum Outcome {
-    Number(i32),
-    Fault(Fault),
-}
+pub type Outcome = Result<i32, Fault>;
 
 // What a run has spent.
 #[derive(Clone, Copy, PartialEq, Eq, Debug)]

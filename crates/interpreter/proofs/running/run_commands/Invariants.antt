@@ -6,12 +6,14 @@ use Rattle.interpreter.proofs.Loops.{Come, left}
 use Rattle.interpreter.proofs.running.run_commands.Given as goal
 
 -- the run from its start has come here
-abbrev pub invariant-loop-next : goal.invariant-loop-next
-invariant-loop-next l =
-    Come (from l.program) (meaning (tree_of l.program) (numbers l.arguments)) l.at (held l.unfinished) (held l.stack) l.steps
-    × (room l.stack ≡ room l.initial.stack)
-    × (room l.unfinished ≡ room l.initial.unfinished)
+abbrev pub invariant-loop-steps : goal.invariant-loop-steps
+invariant-loop-steps l = record {
+  program : l.execution.program.now ≡ l.program;
+  come : Come (from l.program) (meaning (tree_of l.program) (numbers l.arguments)) l.execution.at (held l.execution.chains) (held l.execution.values) l.steps;
+  values : room l.execution.values ≡ room l.initial.execution.values;
+  chains : room l.execution.chains ≡ room l.initial.execution.chains;
+}
 
 -- each command has one step less before it, and a chain that ends is one less
-abbrev pub decreases-loop-next : goal.decreases-loop-next
-decreases-loop-next l = 2 * left (from l.program) l.at (held l.unfinished) (held l.stack) + length (held l.unfinished)
+abbrev pub decreases-loop-steps : goal.decreases-loop-steps
+decreases-loop-steps l = 2 * left (from l.program) l.execution.at (held l.execution.chains) (held l.execution.values) + length (held l.execution.chains)
