@@ -15,7 +15,7 @@ pub data Case : Type 0 where
 -- an outcome is the fault with this number
 abbrev pub StopsAt : ℕ → Outcome → Type 0
 StopsAt n (Ok k) = ⊥
-StopsAt n (Fault f) = fault_number f ≡ n
+StopsAt n (Err f) = fault_number f ≡ n
 
 -- a text is read as a program, whose run has a property
 abbrev pub RunsSo : List ℕ → List ℤ → (Run → Type 0) → Type 0

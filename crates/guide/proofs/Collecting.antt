@@ -1,10 +1,11 @@
 -- Arguments are collected word by word.
-use Rattle.std.proofs.Common.{◌≡◌, ℕ, ◌+◌, ◌<◌, ◌≤◌, List, [], ◌∷◌, ◌++◌, map, length, get_or, drop, ℤ, Ok, Err, Result, sym, refl, ap, ◌∙◌, to_z-of_z, w32, SFits, to_z, of_z}
+use Rattle.std.proofs.Common.{◌≡◌, ℕ, ◌+◌, ◌<◌, ◌≤◌, List, [], ◌∷◌, ◌++◌, map, length, get_or, drop, ℤ, Ok, Err, Result, sym, refl, ap, ◌∙◌, subst, to_z-of_z, w32, SFits, to_z, of_z}
 use Rattle.std.proofs.lemmas.List.{append-nil, append_assoc, at_drop_more, at_drop_all, get_or-map, length-map}
 use Rattle.codes.specs.declared.Refusal.{Refusal}
 use Rattle.grammar.specs.Words.{meaning}
+use Rattle.guide.specs.declared.arguments.ArgumentsError.TheVariants.{Wrong}
 use Rattle.guide.specs.declared.arguments.WrongArgument.{WrongArgument}
-use Rattle.guide.specs.RunReports.{argument_of, with_first, arguments_from, arguments_of}
+use Rattle.guide.specs.RunReports.{Collects, argument_of, with_first, arguments_from, arguments_of}
 
 -- some numbers, and then what is left
 abbrev pub behind : List ℤ → Result (List ℤ) WrongArgument → Result (List ℤ) WrongArgument
@@ -60,3 +61,7 @@ wrong_one ws ks i w r l e a c =
 pub all_collected : (ws : List (List ℕ)) (ks : List ℤ) (i : ℕ) → length ws ≤ i → Collected ws ks i → Ok ks ≡ arguments_of ws
 all_collected ws ks i l c =
     sym (c ∙ at_drop_all (λ (vs : List (List ℕ)). behind ks (arguments_from (i + 1) vs)) ws i l ∙ ap (λ (l : List ℤ). Ok l) (append-nil ks))
+
+-- the first wrong word is told
+pub collects_wrong : (a : Result (List ℤ) WrongArgument) (w : WrongArgument) → Err w ≡ a → Collects a (Err (Wrong w))
+collects_wrong a w e = subst (λ (b : Result (List ℤ) WrongArgument). Collects b (Err (Wrong w))) e refl

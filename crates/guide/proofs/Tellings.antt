@@ -1,5 +1,6 @@
 -- What a report tells, from what reading answered.
-use Rattle.std.proofs.Common.{◌≡◌, ℕ, true, false, List, take, Some, None, string_bytes, Option, sym, ap, ◌∙◌, subst, arith}
+use Rattle.std.proofs.Common.{◌≡◌, ℕ, List, take, Some, None, Err, String, string_bytes, Option, Result, sym, ap, ◌∙◌, subst, arith}
+use Rattle.std.specs.declared.alloc.Global.{Global}
 use Rattle.codes.specs.declared.Refusal.{Refusal}
 use Rattle.syntax.specs.Bounds.{working_places}
 use Rattle.syntax.specs.Code.{Source}
@@ -9,9 +10,13 @@ use Rattle.reader.specs.declared.reading.ReadError.{ReadError}
 use Rattle.reader.specs.declared.place.Position.{Position}
 use Rattle.reader.specs.Places.{first_place, position_after}
 use Rattle.reader.specs.Reads.{Blames}
-use Rattle.guide.specs.declared.report.Report.{Report}
-use Rattle.guide.specs.Reports.{accepted_lines, refused_lines, position_of, Told, RefusedLine}
+use Rattle.guide.specs.declared.report.ReportError.{ReportError}
+use Rattle.guide.specs.declared.report.ReportError.TheVariants.{Refused}
+use Rattle.guide.specs.Reports.{refused_lines, position_of, Told, RefusedLine}
 use Rattle.guide.specs.RunReports.{arguments_of, Ran, RunTold}
+
+abbrev pub Told_result : Type 0
+Told_result = Result (String Global) ReportError
 
 -- a line with a place
 pub line_at : (text line remark : List ℕ) (x : ReadError) (n : ℕ) (p : Position) → x.at ≡ Some n → p ≡ position_after first_place (take n text) → line ≡ refused_lines x.refusal (Some p) remark → RefusedLine text x line
@@ -23,27 +28,25 @@ pub line_nowhere : (text line remark : List ℕ) (x : ReadError) → x.at ≡ No
 line_nowhere text line remark x at e = (remark, e ∙ ap (λ (o : Option Position). refused_lines x.refusal o remark) (sym (ap (position_of text) at)))
 
 -- a text that was read
-pub tells_taken : (text : List ℕ) (p : Source) (r : Report) → reading working_places text ≡ taken p → r.accepted ≡ true → string_bytes r.lines ≡ accepted_lines p → Told text (parse text) r
-tells_taken text p r e a l = subst (λ (v : Verdict). Told text v r) (sym e ∙ reading_in_enough_places working_places text (omega arith)) (a, l)
+pub tells_taken : (text : List ℕ) (p : Source) (r : Told_result) → reading working_places text ≡ taken p → Told text (taken p) r → Told text (parse text) r
+tells_taken text p r e t = subst (λ (v : Verdict). Told text v r) (sym e ∙ reading_in_enough_places working_places text (omega arith)) t
 
 -- a text that was refused
-told_by : (text : List ℕ) (v : Verdict) (x : ReadError) (r : Report) → Blames text v x → r.accepted ≡ false → RefusedLine text x (string_bytes r.lines) → Told text v r
-told_by text (taken p) x r b a l = absurd b
-told_by text (refused e ts) x r b a l = (a, (x.at, l.0, b.1, l.1 ∙ ap (λ (c : Refusal). refused_lines c (position_of text x.at) l.0) b.0))
+told_by : (text : List ℕ) (v : Verdict) (x : ReadError) (s : String Global) → Blames text v x → RefusedLine text x (string_bytes s) → Told text v (Err (Refused s))
+told_by text (taken p) x s b l = absurd b
+told_by text (refused e ts) x s b l = (x.at, l.0, b.1, l.1 ∙ ap (λ (c : Refusal). refused_lines c (position_of text x.at) l.0) b.0)
 
-pub tells_refused : (text : List ℕ) (x : ReadError) (r : Report) → Blames text (reading working_places text) x → r.accepted ≡ false → RefusedLine text x (string_bytes r.lines) → Told text (parse text) r
-tells_refused text x r b a l = subst (λ (v : Verdict). Told text v r) (reading_in_enough_places working_places text (omega arith)) (told_by text (reading working_places text) x r b a l)
+pub tells_refused : (text : List ℕ) (x : ReadError) (s : String Global) → Blames text (reading working_places text) x → RefusedLine text x (string_bytes s) → Told text (parse text) (Err (Refused s))
+tells_refused text x s b l = subst (λ (v : Verdict). Told text v (Err (Refused s))) (reading_in_enough_places working_places text (omega arith)) (told_by text (reading working_places text) x s b l)
 
 -- a report of a run, of a text that was read
-pub tells_ran : (text : List ℕ) (ws : List (List ℕ)) (p : Source) (r : Report) → reading working_places text ≡ taken p → Ran p (arguments_of ws) r → RunTold text ws (parse text) r
+pub tells_ran : (text : List ℕ) (ws : List (List ℕ)) (p : Source) (r : Told_result) → reading working_places text ≡ taken p → Ran p (arguments_of ws) r → RunTold text ws (parse text) r
 tells_ran text ws p r e t = subst (λ (v : Verdict). RunTold text ws v r) (sym e ∙ reading_in_enough_places working_places text (omega arith)) t
 
--- and of one that was refused
-told_first : (text : List ℕ) (ws : List (List ℕ)) (v : Verdict) (x : ReadError) (r : Report) → Blames text v x → Told text v r → RunTold text ws v r
-told_first text ws (taken p) x r b t = absurd b
-told_first text ws (refused e ts) x r b t = t
+-- and of one that was refused, which comes first
+told_first : (text : List ℕ) (ws : List (List ℕ)) (v : Verdict) (x : ReadError) (s : String Global) → Blames text v x → RefusedLine text x (string_bytes s) → RunTold text ws v (Err (Refused s))
+told_first text ws (taken p) x s b l = absurd b
+told_first text ws (refused e ts) x s b l = told_by text (refused e ts) x s b l
 
-pub tells_refused_first : (text : List ℕ) (ws : List (List ℕ)) (x : ReadError) (r : Report) → Blames text (reading working_places text) x → r.accepted ≡ false → RefusedLine text x (string_bytes r.lines) → RunTold text ws (parse text) r
-tells_refused_first text ws x r b a l =
-    subst (λ (v : Verdict). RunTold text ws v r) (reading_in_enough_places working_places text (omega arith))
-    (told_first text ws (reading working_places text) x r b (told_by text (reading working_places text) x r b a l))
+pub tells_refused_first : (text : List ℕ) (ws : List (List ℕ)) (x : ReadError) (s : String Global) → Blames text (reading working_places text) x → RefusedLine text x (string_bytes s) → RunTold text ws (parse text) (Err (Refused s))
+tells_refused_first text ws x s b l = subst (λ (v : Verdict). RunTold text ws v (Err (Refused s))) (reading_in_enough_places working_places text (omega arith)) (told_first text ws (reading working_places text) x s b l)

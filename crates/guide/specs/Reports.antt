@@ -1,5 +1,6 @@
 -- What is said of a text.
-use Rattle.std.specs.Prelude.{◌≡◌, ℕ, true, false, List, ◌++◌, take, Some, None, string_bytes, codes, decimal, Option}
+use Rattle.std.specs.Prelude.{◌≡◌, ℕ, List, ◌++◌, take, Some, None, Ok, Err, String, string_bytes, codes, decimal, Option, Result}
+use Rattle.std.specs.declared.alloc.Global.{Global}
 use Rattle.codes.specs.declared.Refusal.{Refusal}
 use Rattle.codes.specs.Codes.{refusal_text}
 use Rattle.syntax.specs.Code.{Source, source, commands, sequences}
@@ -9,7 +10,8 @@ use Rattle.reader.specs.declared.reading.ReadError.{ReadError}
 use Rattle.reader.specs.declared.place.Position.{Position}
 use Rattle.reader.specs.Places.{first_place, position_after}
 use Rattle.reader.specs.Reads.{Spot}
-use Rattle.guide.specs.declared.report.Report.{Report}
+use Rattle.guide.specs.declared.report.ReportError.{ReportError}
+use Rattle.guide.specs.declared.report.ReportError.TheVariants.{Refused, Failed}
 
 -- the line of a program's counts, after the line before it
 abbrev pub counts_line : ℕ → ℕ → ℕ → List ℕ
@@ -33,11 +35,19 @@ abbrev pub position_of : List ℕ → Option ℕ → Option Position
 position_of text None = None
 position_of text (Some n) = Some (position_after first_place (take n text))
 
--- a report that tells a verdict on a text: the program and its counts, or the refusal and where the first wrong token stands
-abbrev pub Told : List ℕ → Verdict → Report → Type 0
-Told text (taken p) r = (r.accepted ≡ true) × (string_bytes r.lines ≡ accepted_lines p)
-Told text (refused e ts) r =
-    (r.accepted ≡ false) × ((at : Option ℕ) × (remark : List ℕ) × Spot text ts at × (string_bytes r.lines ≡ refused_lines e (position_of text at) remark))
+-- a report that could not be made, and is no refusal
+abbrev pub IsFailure : ReportError → Type 0
+IsFailure (Refused s) = ⊥
+IsFailure (Failed e) = Unit {0}
+
+-- a report that tells a verdict on a text, unless it could not be made: the program and its counts, or as a refusal the
+-- refusal and where the first wrong token stands
+abbrev pub Told : List ℕ → Verdict → Result (String Global) ReportError → Type 0
+Told text (taken p) (Ok s) = string_bytes s ≡ accepted_lines p
+Told text (taken p) (Err e) = IsFailure e
+Told text (refused e ts) (Ok s) = ⊥
+Told text (refused e ts) (Err (Refused s)) = (at : Option ℕ) × (remark : List ℕ) × Spot text ts at × (string_bytes s ≡ refused_lines e (position_of text at) remark)
+Told text (refused e ts) (Err (Failed x)) = Unit {0}
 
 -- the line of a refusal that an error tells
 abbrev pub RefusedLine : List ℕ → ReadError → List ℕ → Type 0

@@ -1,6 +1,7 @@
 -- What is said of a run: its result and its steps, or which argument is wrong.
-use Rattle.std.specs.Prelude.{◌≡◌, ℕ, ◌+◌, true, false, List, [], ◌∷◌, ◌++◌, ℤ, Ok, Err, string_bytes, codes, decimal, Result}
+use Rattle.std.specs.Prelude.{◌≡◌, ℕ, ◌+◌, List, [], ◌∷◌, ◌++◌, ℤ, Ok, Err, Vec, vec_items, String, string_bytes, codes, decimal, Result}
 use Rattle.std.specs.Fmt.{signed_decimal}
+use Rattle.std.specs.declared.alloc.Global.{Global}
 use Rattle.codes.specs.declared.Refusal.{Refusal}
 use Rattle.codes.specs.declared.Refusal.TheVariants.{Word, Range}
 use Rattle.codes.specs.Codes.{fault_text, refusal_text}
@@ -10,8 +11,11 @@ use Rattle.grammar.specs.Words.{Meaning, number, command, huge, strange, meaning
 use Rattle.semantics.specs.declared.Run.{Run}
 use Rattle.semantics.specs.Meaning.{Outcome, run}
 use Rattle.guide.specs.declared.arguments.WrongArgument.{WrongArgument}
-use Rattle.guide.specs.declared.report.Report.{Report}
-use Rattle.guide.specs.Reports.{Told}
+use Rattle.guide.specs.declared.arguments.ArgumentsError.{ArgumentsError}
+use Rattle.guide.specs.declared.arguments.ArgumentsError.TheVariants.{Wrong, Memory}
+use Rattle.guide.specs.declared.report.ReportError.{ReportError}
+use Rattle.guide.specs.declared.report.ReportError.TheVariants.{Refused, Failed}
+use Rattle.guide.specs.Reports.{IsFailure, Told}
 
 -- 1. arguments
 
@@ -37,6 +41,19 @@ arguments_from n (w ∷ ws) = with_first n (argument_of (meaning w)) (arguments_
 abbrev pub arguments_of : List (List ℕ) → Result (List ℤ) WrongArgument
 arguments_of ws = arguments_from 1 ws
 
+-- want of memory
+abbrev pub IsMemory : ArgumentsError → Type 0
+IsMemory (Wrong w) = ⊥
+IsMemory (Memory e) = Unit {0}
+
+-- a call that collects such numbers, or tells the first wrong word, unless there is no memory
+abbrev pub Collects : Result (List ℤ) WrongArgument → Result (Vec ℤ Global) ArgumentsError → Type 0
+Collects (Ok zs) (Ok v) = vec_items v ≡ zs
+Collects (Ok zs) (Err e) = IsMemory e
+Collects (Err w) (Ok v) = ⊥
+Collects (Err w) (Err (Wrong x)) = x ≡ w
+Collects (Err w) (Err (Memory e)) = Unit {0}
+
 -- a wrong argument, and a remark
 abbrev pub wrong_line : WrongArgument → List ℕ → List ℕ
 wrong_line w remark = codes "refused " ++ (refusal_text w.refusal ++ (codes " at argument " ++ (decimal w.at ++ (codes ": " ++ (remark ++ codes "\n")))))
@@ -58,13 +75,16 @@ run_line r = outcome_line r.outcome r.spent.steps
 
 -- 3. reports
 
--- a report of a program on its arguments: what its run comes to, or the wrong argument
-abbrev pub Ran : Source → Result (List ℤ) WrongArgument → Report → Type 0
-Ran p (Ok ks) r = (r.accepted ≡ true) × (string_bytes r.lines ≡ run_line (run p ks))
-Ran p (Err w) r = (r.accepted ≡ false) × ((remark : List ℕ) × (string_bytes r.lines ≡ wrong_line w remark))
+-- a report of a program on its arguments, unless it could not be made: what its run comes to, or as a refusal the wrong argument
+abbrev pub Ran : Source → Result (List ℤ) WrongArgument → Result (String Global) ReportError → Type 0
+Ran p (Ok ks) (Ok s) = string_bytes s ≡ run_line (run p ks)
+Ran p (Ok ks) (Err e) = IsFailure e
+Ran p (Err w) (Ok s) = ⊥
+Ran p (Err w) (Err (Refused s)) = (remark : List ℕ) × (string_bytes s ≡ wrong_line w remark)
+Ran p (Err w) (Err (Failed x)) = Unit {0}
 
 -- a report of a text on some words: the text's refusal, which comes first, or what its program comes to on the numbers that
 -- the words are
-abbrev pub RunTold : List ℕ → List (List ℕ) → Verdict → Report → Type 0
+abbrev pub RunTold : List ℕ → List (List ℕ) → Verdict → Result (String Global) ReportError → Type 0
 RunTold text ws (taken p) r = Ran p (arguments_of ws) r
 RunTold text ws (refused e ts) r = Told text (refused e ts) r

@@ -1,13 +1,12 @@
 // The numbers that a command line gives a program.
 ghost use Rattle.grammar.specs.Words.{meaning};
-ghost use Rattle.guide.specs.RunReports.{argument_of, arguments_of, wrong_line};
-ghost use Rattle.std.specs.Prelude.{◌≡◌, ℕ, List, map, IfOk, vec_items, string_bytes};
-ghost use Rattle.std.specs.Result.{result_map_both};
+ghost use Rattle.guide.specs.RunReports.{Collects, IsMemory, argument_of, arguments_of, wrong_line};
+ghost use Rattle.std.specs.Prelude.{◌≡◌, ℕ, List, map, IfOk, string_bytes};
 
 use super::report::OUT_OF_RANGE;
 use codes::Refusal;
 use lexer::command;
-use std::alloc::{AllocError, Global};
+use std::alloc::{AllocError, AllocFailed, Global};
 use syntax::Event;
 
 // Why an argument was refused, and which one it is, counted from 1.
@@ -17,24 +16,39 @@ pub struct WrongArgument {
     pub at: usize,
 }
 
+// Why there are no numbers.
+#[derive(Drop)]
+pub enum ArgumentsError {
+    // a word is wrong, and this is the first one
+    Wrong(WrongArgument),
+    // there is no memory for them
+    Memory(AllocError),
+}
+
+// No memory was to be had for a number.
+impl<T: Drop> From<AllocFailed<T>> for ArgumentsError {
+    ghost from_gives = { λ _ e. IsMemory e };
+
+    fn from(error: AllocFailed<T>) -> ArgumentsError {
+        ArgumentsError::Memory(error.into())
+    }
+}
+
 // The numbers that the words are, or the first wrong word.
-pub(crate) fn arguments(
-    heap: Global,
-    words: &[String],
-) -> Result<Result<Vec<i32>, WrongArgument>, AllocError>
-    ensures { IfOk result (λ a. result_map_both vec_items (λ w. w) a ≡ arguments_of (map string_bytes words.now)) }
+pub(crate) fn arguments(heap: Global, words: &[String]) -> Result<Vec<i32>, ArgumentsError>
+    ensures { Collects (arguments_of (map string_bytes words.now)) result }
 {
     let mut numbers = Vec::new(heap);
     for (index, word) in words.iter().enumerate() {
         match argument(word.as_bytes()) {
             Ok(number) => numbers.push(number)?,
-            Err(refusal) => return Ok(Err(WrongArgument {
+            Err(refusal) => return Err(ArgumentsError::Wrong(WrongArgument {
                 refusal,
                 at: index + 1,
             })),
         }
     }
-    Ok(Ok(numbers))
+    Ok(numbers)
 }
 
 // The number that a word is. A name is no number.

@@ -9,7 +9,7 @@ mod report;
 use anyhow::anyhow;
 use input::read_input;
 use outcome::run_report;
-use report::{Report, read_report};
+use report::{ReportError, read_report};
 use std::env;
 use std::process::ExitCode;
 
@@ -55,13 +55,13 @@ fn run_command(rt: &HostRuntime) -> anyhow::Result<()> {
 // Reads a rule and prints it, or its refusal.
 fn run_read(rt: &HostRuntime, file: &str) -> anyhow::Result<()> {
     let text = text_of(rt, file)?;
-    tell(rt, read_report(rt.alloc(), text.as_slice())?)
+    tell(rt, read_report(rt.alloc(), text.as_slice()))
 }
 
 // Reads a rule, runs it on the numbers and prints what it comes to, or a refusal.
 fn run_rule(rt: &HostRuntime, file: &str, numbers: &[String]) -> anyhow::Result<()> {
     let text = text_of(rt, file)?;
-    tell(rt, run_report(rt.alloc(), text.as_slice(), numbers)?)
+    tell(rt, run_report(rt.alloc(), text.as_slice(), numbers))
 }
 
 // The bytes of a file, or of standard input for `-`; a file that cannot be read is told.
@@ -76,12 +76,16 @@ fn text_of(rt: &HostRuntime, file: &str) -> anyhow::Result<Vec<u8>> {
 }
 
 // Prints a report. A refusal ends the program with status 1.
-fn tell(rt: &HostRuntime, report: Report) -> anyhow::Result<()> {
-    let Report { lines, accepted } = report;
-    rt.print(lines.as_str())?;
-    if accepted {
-        Ok(())
-    } else {
-        Err(anyhow!("refused"))
+fn tell(rt: &HostRuntime, report: Result<String, ReportError>) -> anyhow::Result<()> {
+    match report {
+        Ok(lines) => {
+            rt.print(lines.as_str())?;
+            Ok(())
+        }
+        Err(ReportError::Refused(lines)) => {
+            rt.print(lines.as_str())?;
+            Err(anyhow!("refused"))
+        }
+        Err(ReportError::Failed(error)) => Err(error),
     }
 }

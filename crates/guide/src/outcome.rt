@@ -5,8 +5,8 @@ ghost use Rattle.program.specs.Programs.{program_of};
 ghost use Rattle.semantics.specs.Meaning.{run};
 ghost use Rattle.std.specs.Prelude.{◌≡◌, map, IfOk, Ok, Err, string_bytes};
 
-use super::arguments::{arguments, wrong_argument};
-use super::report::{Report, refusal};
+use super::arguments::{ArgumentsError, arguments, wrong_argument};
+use super::report::{ReportError, refusal};
 use codes::Fault;
 use interpreter::run;
 use program::Program;
@@ -16,33 +16,27 @@ use std::alloc::{AllocError, Global};
 use syntax::WORKING_PLACES;
 
 // What is said of a text whose program is to run on these words. The text is read first.
-pub(crate) fn run_report(heap: Global, text: &[u8], words: &[String]) -> anyhow::Result<Report>
-    ensures { IfOk result (λ p. RunTold text.now (map string_bytes words.now) (parse text.now) p) }
+pub(crate) fn run_report(heap: Global, text: &[u8], words: &[String]) -> Result<String, ReportError>
+    ensures { RunTold text.now (map string_bytes words.now) (parse text.now) result }
 {
     let mut program = Program::new();
     let mut brackets = [0u16; WORKING_PLACES];
     match read(text, &mut brackets, &mut program) {
-        Ok(()) => Ok(program_report(heap, &program, words)?),
-        Err(error) => Ok(Report {
-            lines: refusal(heap, text, error)?,
-            accepted: false,
-        }),
+        Ok(()) => program_report(heap, &program, words),
+        Err(error) => Err(ReportError::Refused(refusal(heap, text, error)?)),
     }
 }
 
 // What is said of a program on these words.
-fn program_report(heap: Global, program: &Program, words: &[String]) -> Result<Report, AllocError>
-    ensures { IfOk result (λ p. Ran (program_of program.now) (arguments_of (map string_bytes words.now)) p) }
+fn program_report(heap: Global, program: &Program, words: &[String]) -> Result<String, ReportError>
+    ensures { Ran (program_of program.now) (arguments_of (map string_bytes words.now)) result }
 {
-    match arguments(heap, words)? {
-        Ok(numbers) => Ok(Report {
-            lines: outcome(heap, run_on(program, numbers.as_slice()))?,
-            accepted: true,
-        }),
-        Err(wrong) => Ok(Report {
-            lines: wrong_argument(heap, wrong)?,
-            accepted: false,
-        }),
+    match arguments(heap, words) {
+        Ok(numbers) => Ok(outcome(heap, run_on(program, numbers.as_slice()))?),
+        Err(ArgumentsError::Wrong(wrong)) => Err(ReportError::Refused(wrong_argument(
+            heap, wrong,
+        )?)),
+        Err(ArgumentsError::Memory(error)) => Err(error.into()),
     }
 }
 
@@ -97,9 +91,13 @@ mod tests {
         for word in words.split_whitespace() {
             arguments.push(String::from_str(rt.alloc(), word)?)?;
         }
-        let report = run_report(rt.alloc(), text, arguments.as_slice())?;
-        assert!(rt; report.lines.as_str() == lines, "{}", lines);
-        assert!(rt; report.accepted == accepted, "{}", lines);
+        let report = run_report(rt.alloc(), text, arguments.as_slice());
+        assert!(rt; report.is_ok() == accepted, "{}", lines);
+        let told = match report {
+            Ok(told) | Err(ReportError::Refused(told)) => told,
+            Err(ReportError::Failed(error)) => return Err(error.into()),
+        };
+        assert!(rt; told.as_str() == lines, "{}", lines);
         Ok(())
     }
 

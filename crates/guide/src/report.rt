@@ -1,5 +1,5 @@
 // What is said of a text: the program in its standard form, or the refusal and where the wrong token stands.
-ghost use Rattle.guide.specs.Reports.{RefusedLine, Told, accepted_lines, counts_line, refused_lines};
+ghost use Rattle.guide.specs.Reports.{IsFailure, RefusedLine, Told, accepted_lines, counts_line, refused_lines};
 ghost use Rattle.program.specs.Programs.{program_of};
 ghost use Rattle.std.specs.Prelude.{◌≡◌, ◌++◌, IfOk, Some, None, string_bytes};
 ghost use Rattle.grammar.specs.Reading.{parse};
@@ -16,30 +16,43 @@ use syntax::{MOST_BYTES, WORKING_PLACES};
 // What is wrong with a numeral out of range, in words.
 pub(crate) const OUT_OF_RANGE: &str = "a numeral is from -2147483648 to 2147483647";
 
-// Some lines, and whether they tell no refusal.
+// Why what was asked for is not told.
 #[derive(Drop)]
-pub struct Report {
-    pub lines: String,
-    pub accepted: bool,
+pub enum ReportError {
+    // it is refused, and these lines say so
+    Refused(String),
+    // nothing can be told, mostly for want of memory
+    Failed(anyhow::Error),
+}
+
+// Want of memory tells nothing.
+impl From<AllocError> for ReportError {
+    ghost from_gives = { λ _ e. IsFailure e };
+
+    fn from(error: AllocError) -> ReportError {
+        ReportError::Failed(error.into())
+    }
+}
+
+// Nor does any other trouble.
+impl From<anyhow::Error> for ReportError {
+    ghost from_gives = { λ _ e. IsFailure e };
+
+    fn from(error: anyhow::Error) -> ReportError {
+        ReportError::Failed(error)
+    }
 }
 
 // What is said of a text.
-pub(crate) fn read_report(heap: Global, text: &[u8]) -> anyhow::Result<Report>
-    ensures { IfOk result (λ p. Told text.now (parse text.now) p) }
+pub(crate) fn read_report(heap: Global, text: &[u8]) -> Result<String, ReportError>
+    ensures { Told text.now (parse text.now) result }
 {
     let mut program = Program::new();
     let mut brackets = [0u16; WORKING_PLACES];
-    let lines = match read(text, &mut brackets, &mut program) {
-        Ok(()) => return Ok(Report {
-            lines: standard_form(heap, &program)?,
-            accepted: true,
-        }),
-        Err(error) => refusal(heap, text, error)?,
-    };
-    Ok(Report {
-        lines,
-        accepted: false,
-    })
+    match read(text, &mut brackets, &mut program) {
+        Ok(()) => Ok(standard_form(heap, &program)?),
+        Err(error) => Err(ReportError::Refused(refusal(heap, text, error)?)),
+    }
 }
 
 // The program's text, and a line of its counts.
@@ -132,8 +145,11 @@ mod tests {
     use std::test::Fail;
 
     fn says(rt: &(impl Abort + AllocGlobal), text: &[u8], lines: &str) -> Result<(), Fail> {
-        let report = read_report(rt.alloc(), text)?;
-        assert!(rt; report.lines.as_str() == lines, "{}", lines);
+        let told = match read_report(rt.alloc(), text) {
+            Ok(told) | Err(ReportError::Refused(told)) => told,
+            Err(ReportError::Failed(error)) => return Err(error.into()),
+        };
+        assert!(rt; told.as_str() == lines, "{}", lines);
         Ok(())
     }
 

@@ -13,7 +13,6 @@ ghost use Rattle.printer.specs.Writing.{Wrote, ending, heading, close_behind, wr
 
 use codes::Refusal;
 use program::{Program, Walker};
-use stack::Stack;
 use syntax::{Event, Name, Operator, WORKING_PLACES};
 
 // How many digits an unsigned number of 32 bits has at most.
@@ -72,8 +71,7 @@ fn put_commands(
     ensures answer { result ≡ Ok (at + length (ending false (events (tree_of program.now)))) }
     ensures bytes { out.new ≡ written out.old at (ending false (events (tree_of program.now))) }
 {
-    let mut stack = Stack::new(chains);
-    let mut walker = Walker::new(program, &mut stack);
+    let mut walker = Walker::new(program, chains);
     let mut end = at;
     let mut tight = false;
     while let Some(event) = walker.next()? {

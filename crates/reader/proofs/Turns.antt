@@ -24,7 +24,7 @@ use Rattle.reader.specs.declared.reading.ReadError.{ReadError}
 use Rattle.reader.specs.Reads.{Spot, Blames}
 
 -- an opening bracket for which there is no room
-pub opening_wrong : (b d : Builder) (t : Token) (x : Result (Unit {0}) Refusal) (e : Refusal) → most_commands ≤ room b.opens.now → t ≡ OpenToken → Took Open b d x → x ≡ Err e → step (working b) (lexeme t) ≡ wrong e
+pub opening_wrong : (b d : Builder) (t : Token) (x : Result (Unit {0}) Refusal) (e : Refusal) → most_commands ≤ room b.opens → t ≡ OpenToken → Took Open b d x → x ≡ Err e → step (working b) (lexeme t) ≡ wrong e
 opening_wrong b d t x e l is took err =
     let n = offers.not_taken Open b d e l (subst (Took Open b d) err took) in
     ap (λ (u : Token). step (working b) (lexeme u)) is ∙ fed-none (feed Open (working b)) n.0 ∙ ap wrong (sym n.1)
@@ -37,7 +37,7 @@ crowds huge e h = let z : ◌≡◌ {A = ℕ} 0 1 = cc in absurd (omega arith)
 crowds strange e h = let z : ◌≡◌ {A = ℕ} 0 1 = cc in absurd (omega arith)
 
 -- a word for which there is no room
-pub word-wrong : (b d : Builder) (t : Token) (w : List ℕ) (v : Event) (x : Result (Unit {0}) Refusal) (e : Refusal) → most_commands ≤ room b.opens.now → lexeme t ≡ word w → Ok v ≡ told (meaning w) → Took v b d x → x ≡ Err e → step (working b) (lexeme t) ≡ wrong e
+pub word-wrong : (b d : Builder) (t : Token) (w : List ℕ) (v : Event) (x : Result (Unit {0}) Refusal) (e : Refusal) → most_commands ≤ room b.opens → lexeme t ≡ word w → Ok v ≡ told (meaning w) → Took v b d x → x ≡ Err e → step (working b) (lexeme t) ≡ wrong e
 word-wrong b d t w v x e l is means took err =
     let n = offers.not_taken v b d e l (subst (Took v b d) err took) in
     ap (step (working b)) is ∙ follow_ok (meaning w) v (working b) means ∙ fed-none (feed v (working b)) n.0 ∙ ap wrong (sym (n.1 ∙ crowds (meaning w) v means))

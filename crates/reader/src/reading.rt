@@ -12,7 +12,6 @@ ghost use Rattle.reader.specs.Reads.{Exactly, Headed, Opens, ReadAs, Says, Turne
 use codes::Refusal;
 use lexer::{Lexer, Token, command, digits};
 use program::{Arity, Builder, Program};
-use stack::Stack;
 use syntax::{Event, MOST_BYTES, WORKING_PLACES};
 
 // Why a text was not read, and where the token begins that is to blame, if one is.
@@ -52,8 +51,7 @@ pub fn read(text: &[u8], brackets: &mut [u16], into: &mut Program) -> Result<(),
         Ok(arity) => arity,
         Err(error) => return Err(error),
     };
-    let mut opens = Stack::new(brackets);
-    match commands(&mut lexer, arity, &mut opens) {
+    match commands(&mut lexer, arity, brackets) {
         Ok(program) => {
             *into = program;
             Ok(())
@@ -83,9 +81,9 @@ fn header(lexer: &mut Lexer) -> Result<Arity, ReadError>
     let Some(value) = digits(count) else {
         return Err(wrong);
     };
-    match Arity::new(value) {
-        Some(arity) => Ok(arity),
-        None => Err(wrong),
+    match Arity::try_from(value) {
+        Ok(arity) => Ok(arity),
+        Err(_) => Err(wrong),
     }
 }
 
@@ -126,11 +124,11 @@ fn next_word<'a>(lexer: &mut Lexer<'a>) -> Result<&'a [u8], ReadError>
 }
 
 // The commands up to the program's last bracket, which nothing may follow.
-fn commands(lexer: &mut Lexer, arity: Arity, opens: &mut Stack<u16>) -> Result<Program, ReadError>
-    requires { most_commands ≤ room opens.old }
+fn commands(lexer: &mut Lexer, arity: Arity, brackets: &mut [u16]) -> Result<Program, ReadError>
+    requires { most_commands ≤ length brackets.old }
     ensures { Says (text_of lexer.old) (body arity.count (rest lexer.old) blank) result }
 {
-    let mut builder = Builder::new(arity, opens);
+    let mut builder = Builder::new(arity, brackets);
     while let Some(token) = lexer.next() {
         match take(&mut builder, token) {
             Ok(Turn::GoesOn) => {}
@@ -149,11 +147,11 @@ fn commands(lexer: &mut Lexer, arity: Arity, opens: &mut Stack<u16>) -> Result<P
 
 // What one token does to the builder.
 fn take(builder: &mut Builder, token: Token) -> Result<Turn, Refusal>
-    requires { most_commands ≤ room builder.old.opens.now }
+    requires { most_commands ≤ room builder.old.opens }
     ensures turned { Turned (step (working builder.old) (lexeme token.entry)) (working builder.old) (working builder.new) result }
-    ensures room { room builder.new.opens.now ≡ room builder.old.opens.now }
+    ensures room { room builder.new.opens ≡ room builder.old.opens }
     ensures arity { builder.new.arity ≡ builder.old.arity }
-    ensures same { builder.new.opens.ghost_name ≡ builder.old.opens.ghost_name }
+    ensures same { builder.new.opens.places.ghost_name ≡ builder.old.opens.places.ghost_name }
 {
     match token {
         Token::Open => {

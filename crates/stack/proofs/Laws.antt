@@ -1,5 +1,5 @@
 -- The first places of a list, read as a stack, and how many values a stack holds.
-use Rattle.std.proofs.Common.{◌≡◌, ℕ, zero, suc, ◌+◌, ◌-◌, ◌<◌, ◌≤◌, List, [], ◌∷◌, reverse, length, get_or, take, set, Some, None, refl, ap, ◌∙◌, arith}
+use Rattle.std.proofs.Common.{◌≡◌, ℕ, zero, suc, ◌+◌, ◌-◌, ◌<◌, ◌≤◌, List, [], ◌∷◌, reverse, length, get_or, take, set, Some, None, sym, refl, ap, ◌∙◌, arith}
 use Rattle.std.proofs.lemmas.List.{take_more, take_more_set, reverse-append, length-reverse, length-take-le, get_or-reverse, get_or-take}
 use Rattle.stack.specs.declared.Stack.{Stack}
 use Rattle.stack.specs.Held.{held, room}
@@ -53,3 +53,13 @@ length-held s = length-items s.places.now s.len s.fits
 -- a stack holds no more than it has room for
 pub held-within-room : {X : Type 0} (s : Stack X) → length (held s) ≤ room s
 held-within-room s = omega (arith, length-held s, s.fits)
+
+-- a stack of no length holds nothing
+pub nothing_held : {X : Type 0} (s : Stack X) → s.len ≡ 0 → held s ≡ []
+nothing_held s e = ap (items s.places.now) e ∙ items-none s.places.now
+
+-- any other holds what stands in its last place, and under it what a stack one shorter holds
+pub top_held : {X : Type 0} (s : Stack X) (d : X) → (s.len ≡ 0 → ⊥) → held s ≡ get_or s.places.now (s.len - 1) d ∷ items s.places.now (s.len - 1)
+top_held s d n =
+    let e : s.len - 1 + 1 ≡ s.len = omega (arith, n) in
+    sym (ap (items s.places.now) e) ∙ items-pop s.places.now (s.len - 1) d (omega (arith, s.fits))

@@ -3,13 +3,8 @@ use Rattle.std.proofs.Common.{◌≡◌, pos, Ok, sym, ◌∙◌, arith, w32, to
 use lib.Signed.{quot_z, rem_z}
 use Rattle.std.proofs.lemmas.Int.{ints, to_z-of_z}
 use Rattle.arithmetic.specs.Operations.{quotient, remainder}
-use Rattle.arithmetic.proofs.Divisions.{divided_by_zero, divided_by_nonzero, quotient_bits}
+use Rattle.arithmetic.proofs.Divisions.{divided_by_nonzero, quotient_bits}
 use Rattle.arithmetic.proofs.div_rem.Goals as goal
-
-pub returns-then-b-eq0 : goal.returns-then-b-eq0
-returns-then-b-eq0 c =
-    let e : c.args.b ≡ pos 0 = omega (arith, ints, c.if-b-eq0.true) in
-    sym (divided_by_zero c.args.a c.args.b e)
 
 pub returns : goal.returns
 returns c =

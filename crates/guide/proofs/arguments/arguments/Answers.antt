@@ -1,9 +1,7 @@
 use Rattle.std.proofs.Common.{map, vec_items, string_bytes, w32, SFits, rules}
-use Rattle.guide.proofs.Collecting.{bytes-at, within-map, past-map, none_collected, one_collected, wrong_one, all_collected}
+use Rattle.guide.specs.RunReports.{arguments_of}
+use Rattle.guide.proofs.Collecting.{bytes-at, within-map, one_collected, wrong_one, collects_wrong}
 use Rattle.guide.proofs.arguments.arguments.Goals as goal
-
-pub loop-index-init : goal.loop-index-init
-loop-index-init c = none_collected (map string_bytes c.args.words.now) (vec_items c.new-numbers.result) c.new-numbers.ensures.items
 
 pub loop-index-preserved : goal.loop-index-preserved
 loop-index-preserved c =
@@ -15,12 +13,7 @@ loop-index-preserved c =
 
 pub returns-in-Err : goal.returns-in-Err
 returns-in-Err c =
-    wrong_one (map string_bytes c.args.words.now) (vec_items c.loop-index.numbers) c.loop-index.index c.as_bytes.result.now c.in-Err.refusal
+    collects_wrong (arguments_of (map string_bytes c.args.words.now)) _ (wrong_one (map string_bytes c.args.words.now) (vec_items c.loop-index.numbers) c.loop-index.index c.as_bytes.result.now c.in-Err.refusal
     (within-map string_bytes c.args.words.now c.loop-index.index c.loop-index-test.true)
     (bytes-at string_bytes c.args.words.now c.loop-index.index c.index-words-index.result c.as_bytes.result.now c.loop-index-test.true c.index-words-index.is c.as_bytes.ensures.value)
-    c.in-Err.ensures c.loop-index.invariant
-
-pub returns : goal.returns
-returns c =
-    all_collected (map string_bytes c.args.words.now) (vec_items c.loop-index.numbers) c.loop-index.index
-    (past-map string_bytes c.args.words.now c.loop-index.index c.loop-index-test.false) c.loop-index.invariant
+    c.in-Err.ensures c.loop-index.invariant)

@@ -42,23 +42,23 @@ returns-in_default c = record {
       (moved (text_of c.next_word.new.lexer) _ (rest c.next_word.new.lexer) (Some c.start-2.result) (Some c.next_word-2.new.lexer.start) (c.next_word.ensures.text ∙ c.expect_open.ensures.text) (ap (λ (n : ℕ). Some n) c.start-2.ensures) c.in_ok-count.ensures.word.1);
 }
 
-pub returns-in-Some-new : goal.returns-in-Some-new
-returns-in-Some-new c = record {
+pub returns-in-Ok : goal.returns-in-Ok
+returns-in-Ok c = record {
   text = c.next_word-2.ensures.text ∙ c.next_word.ensures.text ∙ c.expect_open.ensures.text;
   head =
       at_third (rest c.args.lexer.now) (rest c.expect_open.new.lexer) c.in_ok-expect_open.ensures.opens c.in_ok-first.first.now (rest c.next_word.new.lexer)
       c.in_ok-first.ensures.word.0 ((slice_eq-Decides Decides-eqb _ _ _ c.eq.ensures).0 c.if-not-eq.false ∙ c.as_slice.ensures)
-      ∙ third_right (rest c.next_word.new.lexer) c.in_ok-count.count.now (rest c.next_word-2.new.lexer) c.in_ok-count.ensures.word.0 c.in-Some.value c.in-Some-new.arity.count
-      c.in-Some.ensures.0 c.in-Some.ensures.1 c.in-Some-new.ensures c.in-Some-new.arity.few;
+      ∙ third_right (rest c.next_word.new.lexer) c.in_ok-count.count.now (rest c.next_word-2.new.lexer) c.in_ok-count.ensures.word.0 c.in-Some.value c.in-Ok.arity.count
+      c.in-Some.ensures.0 c.in-Some.ensures.1 c.in-Ok.ensures c.in-Ok.arity.few;
 }
 
-pub returns-in-None : goal.returns-in-None
-returns-in-None c = record {
+pub returns-in-Err : goal.returns-in-Err
+returns-in-Err c = record {
   text = c.next_word-2.ensures.text ∙ c.next_word.ensures.text ∙ c.expect_open.ensures.text;
   head = blamed _ _ _ (rest c.next_word.new.lexer) _
       (at_third (rest c.args.lexer.now) (rest c.expect_open.new.lexer) c.in_ok-expect_open.ensures.opens c.in_ok-first.first.now (rest c.next_word.new.lexer)
       c.in_ok-first.ensures.word.0 ((slice_eq-Decides Decides-eqb _ _ _ c.eq.ensures).0 c.if-not-eq.false ∙ c.as_slice.ensures)
-      ∙ third_many (rest c.next_word.new.lexer) c.in_ok-count.count.now (rest c.next_word-2.new.lexer) c.in_ok-count.ensures.word.0 c.in-Some.value c.in-Some.ensures.0 c.in-Some.ensures.1 c.in-None.ensures)
+      ∙ third_many (rest c.next_word.new.lexer) c.in_ok-count.count.now (rest c.next_word-2.new.lexer) c.in_ok-count.ensures.word.0 c.in-Some.value c.in-Some.ensures.0 c.in-Some.ensures.1 c.in-Err.ensures)
       refl
       (moved (text_of c.next_word.new.lexer) _ (rest c.next_word.new.lexer) (Some c.start-2.result) (Some c.next_word-2.new.lexer.start) (c.next_word.ensures.text ∙ c.expect_open.ensures.text) (ap (λ (n : ℕ). Some n) c.start-2.ensures) c.in_ok-count.ensures.word.1);
 }

@@ -1,6 +1,6 @@
-use Rattle.std.proofs.Common.{refl}
+-- A cleared stack holds nothing.
 use Rattle.stack.proofs.Laws.{items-none}
 use Rattle.stack.proofs.Stack.clear.Goals as goal
 
-pub returns : goal.returns
-returns g c = record { size = refl; same = refl; none = items-none c.args.self.now.places.now; over = refl }
+pub returns-clause-none : goal.returns-clause-none
+returns-clause-none g c = items-none c.args.self.now.places.now

@@ -1,19 +1,17 @@
--- The top is taken away, and memory stays as it was.
-use Rattle.std.proofs.Common.{◌≡◌, ◌+◌, ◌-◌, sym, refl, ap, ◌∙◌, arith}
-use Rattle.stack.specs.Items.{items, head_of, tail_of}
-use Rattle.stack.specs.Held.{memory, room}
-use Rattle.stack.proofs.Laws.{items-pop, items-none}
+-- The value on top is the first of what was held, and the others are the rest.
+use Rattle.std.proofs.Common.{sym, ap, ◌∙◌}
+use Rattle.stack.specs.Items.{head_of, tail_of}
+use Rattle.stack.proofs.Laws.{nothing_held, top_held}
 use Rattle.stack.proofs.Stack.pop.Goals as goal
 
-pub returns-then-self-eq0 : goal.returns-then-self-eq0
-returns-then-self-eq0 g c =
-    let e : items c.args.self.now.places.now c.args.self.now.len ≡ items c.args.self.now.places.now 0 = ap (items c.args.self.now.places.now) c.if-self-eq0.true in
-    let n = items-none c.args.self.now.places.now in
-    record { size = refl {a = room c.args.self.now}; same = refl {a = c.args.self.now.places.ghost_name}; top = sym (ap head_of (e ∙ n)); rest = e ∙ n ∙ sym (ap tail_of (e ∙ n)); over = refl {a = memory c.args.self.now} }
+pub returns-then-self-eq0-clause-top : goal.returns-then-self-eq0-clause-top
+returns-then-self-eq0-clause-top g c = sym (ap head_of (nothing_held c.args.self.now c.if-self-eq0.true))
 
-pub returns : goal.returns
-returns g c =
-    let s : c.args.self.now.len - 1 + 1 ≡ c.args.self.now.len = omega arith in
-    let p = items-pop c.args.self.now.places.now (c.args.self.now.len - 1) c.index-self-self.result (omega (arith, c.args.self.now.fits)) in
-    let q : items c.args.self.now.places.now c.args.self.now.len ≡ _ = sym (ap (items c.args.self.now.places.now) s) ∙ p in
-    record { size = refl {a = room c.args.self.now}; same = refl {a = c.args.self.now.places.ghost_name}; top = sym (ap head_of q); rest = sym (ap tail_of q); over = refl {a = memory c.args.self.now} }
+pub returns-then-self-eq0-clause-rest : goal.returns-then-self-eq0-clause-rest
+returns-then-self-eq0-clause-rest g c = let e = nothing_held c.args.self.now c.if-self-eq0.true in e ∙ sym (ap tail_of e)
+
+pub returns-clause-top : goal.returns-clause-top
+returns-clause-top g c = sym (ap head_of (top_held c.args.self.now c.index-self-self.result c.if-self-eq0.false))
+
+pub returns-clause-rest : goal.returns-clause-rest
+returns-clause-rest g c = sym (ap tail_of (top_held c.args.self.now c.index-self-self.result c.if-self-eq0.false))
