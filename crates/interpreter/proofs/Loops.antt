@@ -37,40 +37,6 @@ spent_after x (done s y) = refl
 spent_after x (stopped e y) = refl
 
 module _ (f : ℕ → Code) (all : Course) (v : ℕ) (vs : List ℕ) (s : Stack ℕ) (k : ℕ) (h : Come f all v vs s k) where
-  -- the steps so far and those left
-  pub within : k + left f v vs s ≤ most_commands
-  within = let few = h.few in let e = ap (λ (c : Course). (spent_of c).steps) h.course in omega (arith, spent_after (steps k) (rest f v vs s))
-
-  pub room_for_a_value : (room : ℕ) → working_places ≤ room → length s < room
-  room_for_a_value room l = let n = h.values in omega (arith, within)
-
-  pub room_for_a_chain : (room : ℕ) → working_places ≤ room → length vs < room
-  room_for_a_chain room l = let n = h.chains in omega (arith, within)
-
-  pub ran : (w : ℕ) (ws : List ℕ) (t : Stack ℕ) → Went f v s vs (Ok Ran) w t ws → Come f all w ws t (k + 1)
-  ran w ws t (e, more, deeper) =
-      let n = h.values in
-      let m = h.chains in
-      record {
-        course = h.course ∙ ap (spend (steps k)) e ∙ spend-spend (steps k) one_step (rest f w ws t);
-        few = h.few;
-        values = omega arith;
-        chains = omega arith;
-      }
-
-  pub ran_falls : (w : ℕ) (ws : List ℕ) (t : Stack ℕ) → Went f v s vs (Ok Ran) w t ws → 2 * left f w ws t + length ws < 2 * left f v vs s + length vs
-  ran_falls w ws t (e, more, deeper) = let n = ap (λ (c : Course). (spent_of c).steps) e in omega (arith, spent_after one_step (rest f w ws t))
-
-  pub returned : (w : ℕ) (ws : List ℕ) (t : Stack ℕ) → Went f v s vs (Ok Returned) w t ws → Come f all w ws t k
-  returned w ws t (e, same, fewer) =
-      let n = h.values in
-      let m = h.chains in
-      let l = ap length same in
-      record { course = h.course ∙ ap (spend (steps k)) e; few = h.few; values = omega arith; chains = omega arith }
-
-  pub returned_falls : (w : ℕ) (ws : List ℕ) (t : Stack ℕ) → Went f v s vs (Ok Returned) w t ws → 2 * left f w ws t + length ws < 2 * left f v vs s + length vs
-  returned_falls w ws t (e, same, fewer) = let n = ap (λ (c : Course). (spent_of c).steps) e in omega arith
-
   pub ended : (w : ℕ) (ws : List ℕ) (t : Stack ℕ) → Went f v s vs (Ok Ended) w t ws → record { outcome = result t; spent = steps k } ≡ concluded all
   ended w ws t (e, same) =
       let course : all ≡ done (denotes f s) (steps k) =
@@ -82,7 +48,7 @@ module _ (f : ℕ → Code) (all : Course) (v : ℕ) (vs : List ℕ) (s : Stack 
   pub stopped_at : (g : Fault) (w : ℕ) (ws : List ℕ) (t : Stack ℕ) → Went f v s vs (Err g) w t ws → record { outcome = Err g; spent = steps (k + 1) } ≡ concluded all
   stopped_at g w ws t e = ap concluded (sym (h.course ∙ ap (spend (steps k)) e))
 
--- at the start
+-- at the start, where nothing has run
 pub start : (f : ℕ → Code) (c : Code) (v : ℕ) (ks : List ℤ) (vs : List ℕ) (s : Stack ℕ) → f v ≡ c → vs ≡ [] → s ≡ numbers ks → length s ≤ most_parameters → (spent_of (meaning c (numbers ks))).steps ≤ most_commands
     → Come f (meaning c (numbers ks)) v vs s 0
 start f c v ks vs s e none args few l =

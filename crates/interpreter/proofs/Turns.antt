@@ -18,13 +18,6 @@ use Rattle.interpreter.specs.Turning.{chained, rest, Went}
 module _ (f : ℕ → Code) (v : ℕ) (s : Stack ℕ) (vs : List ℕ) where
   -- at the end of a chain
 
-  pub went_back : (w : ℕ) (t : Stack ℕ) (ws : List ℕ) → f v ≡ end → t ≡ s → vs ≡ w ∷ ws → Went f v s vs (Ok Returned) w t ws
-  went_back w t ws e same more =
-      (ap (λ (q : Code). meaning (append q (chained f vs)) (denotes f s)) e ∙ ap (λ (us : List ℕ). meaning (chained f us) (denotes f s)) more ∙ ap (λ (u : Stack ℕ). rest f w ws u) (sym same), same, ap length more)
-
-  pub went_to_the_end : (w : ℕ) (t : Stack ℕ) (ws : List ℕ) → f v ≡ end → t ≡ s → vs ≡ [] → Went f v s vs (Ok Ended) w t ws
-  went_to_the_end w t ws e same none = (ap (λ (q : Code). append q (chained f vs)) e ∙ ap (chained f) none, same)
-
   -- what is pushed
 
   pub went_by_numeral : (k : ℤ) (w : ℕ) (t : Stack ℕ) (ws : List ℕ) → f v ≡ numeral k (f w) → t ≡ Numeral k ∷ s → ws ≡ vs → Went f v s vs (Ok Ran) w t ws
