@@ -105,9 +105,6 @@ least_by_minus_one = (refl, refl)
 
 -- ---- what the code gives
 
-pub divided_by_zero : (a b : ℤ) → b ≡ pos 0 → divided a b ≡ Err ZeroDivisor
-divided_by_zero a b e = cond-true (eqb (nat_abs b) 0) (Err ZeroDivisor) (Ok (quotient a b, remainder a b)) (eq-eqb (nat_abs b) 0 (ap nat_abs e))
-
 pub divided_by_nonzero : (a b : ℤ) → (b ≡ pos 0 → ⊥) → divided a b ≡ Ok (quotient a b, remainder a b)
 divided_by_nonzero a b n =
     let l = magnitude_positive b n in

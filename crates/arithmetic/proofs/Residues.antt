@@ -57,9 +57,6 @@ reduced-in_range z = fits_in_range (reduced z) (SFits-int_wrap w32 z)
 pub reduction_is_residue_lem : ReductionIsResidue
 reduction_is_residue_lem z = record { within = reduced-in_range z; multiple = multiple z; only = only z }
 
-pub reduction_keeps_numbers_lem : ReductionKeepsNumbers
-reduction_keeps_numbers_lem z h = int_wrap_fits w32 z (in_range_fits z h)
-
 pub operations_are_residues_lem : OperationsAreResidues
 operations_are_residues_lem a b = (reduction_is_residue_lem (a +ℤ b), reduction_is_residue_lem (a -ℤ b), reduction_is_residue_lem (a *ℤ b))
 
@@ -93,9 +90,3 @@ differences_regroup_lem x a b =
 
 pub products_regroup_lem : ProductsRegroup
 products_regroup_lem x a b = int_wrap-mul_left w32 (x *ℤ a) b ∙ ap (int_wrap w32) (*ℤ_assoc x a b) ∙ sym (int_wrap-mul_right w32 x (a *ℤ b))
-
-pub sums_commute_lem : SumsCommute
-sums_commute_lem a b = ap (int_wrap w32) (+ℤ_comm a b)
-
-pub products_commute_lem : ProductsCommute
-products_commute_lem a b = ap (int_wrap w32) (*ℤ_comm a b)

@@ -21,9 +21,6 @@ use Rattle.grammar.specs.Reading.{taken, refused, goes, ends, wrong, fed, follow
 pub body-goes : (k : ℕ) (t : Token) (ts : List Token) (d e : Draft) → step d t ≡ goes e → body k (t ∷ ts) d ≡ body k ts e
 body-goes k t ts d e h = ap (λ s. next k s t ts (body k ts)) h
 
-pub body-ends : (k : ℕ) (t : Token) (ts : List Token) (d : Draft) (c : Code) → step d t ≡ ends c → body k (t ∷ ts) d ≡ after k c ts
-body-ends k t ts d c h = ap (λ s. next k s t ts (body k ts)) h
-
 pub body-wrong : (k : ℕ) (t : Token) (ts : List Token) (d : Draft) (e : Refusal) → step d t ≡ wrong e → body k (t ∷ ts) d ≡ refused e (t ∷ ts)
 body-wrong k t ts d e h = ap (λ s. next k s t ts (body k ts)) h
 
@@ -56,27 +53,8 @@ module _ (a : Code) (out : List Code) where
 
 -- a token, by what the event does that it stands for
 
-pub fed_some : (o : Option Draft) (e : Draft) → o ≡ Some e → fed o ≡ goes e
-fed_some o e h = ap fed h
-
 pub fed-none : (o : Option Draft) → o ≡ None → fed o ≡ wrong Crowd
 fed-none o h = ap fed h
-
-same_draft : (d e : Draft) → ◌≡◌ {A = Option Draft} (Some d) (Some e) → d ≡ e
-same_draft d e h = cc
-
-pub closing_goes : (d e : Draft) → feed Close d ≡ Some e → step d closing ≡ goes e
-closing_goes (draft c []) e h = let z : ◌≡◌ {A = ℕ} 0 1 = cc in absurd (omega arith)
-closing_goes (draft c (b ∷ cs)) e h = ap goes (same_draft _ e h)
-
-pub closing_ends : (d : Draft) (c : Code) → finished d ≡ Some c → step d closing ≡ ends c
-closing_ends (draft b []) c h = let same : b ≡ c = cc in ap ends same
-closing_ends (draft b (x ∷ cs)) c h = let z : ◌≡◌ {A = ℕ} 0 1 = cc in absurd (omega arith)
-
--- no bracket is open where a closing one feeds nothing
-pub closing_none : (d : Draft) → feed Close d ≡ None → (c : Code) × (finished d ≡ Some c)
-closing_none (draft c []) h = (c, refl)
-closing_none (draft c (b ∷ cs)) h = let z : ◌≡◌ {A = ℕ} 0 1 = cc in absurd (omega arith)
 
 -- the first three tokens
 

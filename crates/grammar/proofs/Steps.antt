@@ -13,9 +13,6 @@ pub skip_more : (xs : List ℕ) (i : ℕ) → i < length xs → white (get_or xs
 skip_more xs i l h =
     sym (at_drop_more tokens xs i 0 l ∙ ap (λ k. joined (put k (get_or xs i 0) (lex (drop (i + 1) xs)))) (white_space (get_or xs i 0) h))
 
-pub run_none : (xs : List ℕ) (i : ℕ) → RunTo xs i i
-run_none xs i = let z : i - i ≡ 0 = omega arith in rw z refl
-
 pub run_more : (xs : List ℕ) (from i : ℕ) → from ≤ i → i < length xs → kind (get_or xs i 0) ≡ letter → RunTo xs from i → RunTo xs from (i + 1)
 run_more xs from i f l h r =
     let here : lex (drop i xs) ≡ (get_or xs i 0 ∷ (lex (drop (i + 1) xs)).0, (lex (drop (i + 1) xs)).1) = at_drop_more lex xs i 0 l ∙ ap (λ k. put k (get_or xs i 0) (lex (drop (i + 1) xs))) h in

@@ -91,10 +91,6 @@ none_named w (o ∷ os) h =
     (λ e. absurd (h o ((bytes_eq-Decides w (name_word o)).0 e)))
     (λ e. none_named w os h)
 
-pub unnamed : (w : List ℕ) → ((o : Name) → w ≡ name_word o → ⊥) → name_of w ≡ strange
-unfolding name_of
-unnamed w h = none_named w names h
-
 all_named : (o : Name) → name_of (name_word o) ≡ command o
 unfolding name_of
 all_named (operator Add) = refl
@@ -111,9 +107,6 @@ all_named Pop = refl
 all_named Sel = refl
 all_named Swap = refl
 
-pub is_named : (w : List ℕ) (o : Name) → w ≡ name_word o → name_of w ≡ command o
-is_named w o e = ap name_of e ∙ all_named o
-
 -- what a word means, by its form
 
 digital-head : (c : ℕ) (cs : List ℕ) → digital (c ∷ cs) ≡ true → eqb c 45 ≡ false
@@ -129,20 +122,6 @@ meaning-digits (c ∷ cs) d = rw (digital-head c cs d, d) refl
 pub meaning-minus : (w : List ℕ) → 0 < length w → get_or w 0 0 ≡ 45 → meaning w ≡ minused (drop 1 w)
 meaning-minus [] l h = absurd (omega arith)
 meaning-minus (c ∷ cs) l h = ap (λ k. meaning (k ∷ cs)) h
-
-pub meaning-minus-digits : (w : List ℕ) → 0 < length w → get_or w 0 0 ≡ 45 → digital (drop 1 w) ≡ true → meaning w ≡ ranged (neg_ℤ (pos (digits_value 10 (drop 1 w))))
-meaning-minus-digits w l h d = meaning-minus w l h ∙ cond-true _ (ranged (neg_ℤ (pos (digits_value 10 (drop 1 w))))) strange d
-
-pub meaning_minus_other : (w : List ℕ) → 0 < length w → get_or w 0 0 ≡ 45 → digital (drop 1 w) ≡ false → meaning w ≡ strange
-meaning_minus_other w l h d = meaning-minus w l h ∙ cond-false _ (ranged (neg_ℤ (pos (digits_value 10 (drop 1 w))))) strange d
-
--- neither digits nor a minus in front
-pub meaning_other : (w : List ℕ) → (0 < length w → get_or w 0 0 ≡ 45 → ⊥) → digital w ≡ false → meaning w ≡ name_of w
-unfolding name_of
-meaning_other [] h d = refl
-meaning_other (c ∷ cs) h d =
-    cond-false _ (minused cs) (unsigned (c ∷ cs)) (ne_eqb c 45 (h (omega arith)))
-    ∙ cond-false _ (ranged (pos (digits_value 10 (c ∷ cs)))) (name_of (c ∷ cs)) d
 
 pub ranged-number : (z : ℤ) → in_range z ≡ true → ranged z ≡ number z
 ranged-number z h = cond-true (in_range z) (number z) huge h

@@ -12,10 +12,6 @@ abbrev pub behind : List ℤ → Result (List ℤ) WrongArgument → Result (Lis
 behind ks (Ok zs) = Ok (ks ++ zs)
 behind ks (Err w) = Err w
 
-behind_nil : (a : Result (List ℤ) WrongArgument) → behind [] a ≡ a
-behind_nil (Ok zs) = refl
-behind_nil (Err w) = refl
-
 behind_more : (ks : List ℤ) (n : ℕ) (z : ℤ) (a : Result (List ℤ) WrongArgument) → behind ks (with_first n (Ok z) a) ≡ behind (ks ++ z ∷ []) a
 behind_more ks n z (Ok zs) = ap (λ (l : List ℤ). Ok l) (sym (append_assoc ks (z ∷ []) zs))
 behind_more ks n z (Err w) = refl
@@ -24,19 +20,12 @@ behind_more ks n z (Err w) = refl
 abbrev pub Collected : List (List ℕ) → List ℤ → ℕ → Type 0
 Collected ws ks i = arguments_of ws ≡ behind ks (arguments_from (i + 1) (drop i ws))
 
--- the start
-pub none_collected : (ws : List (List ℕ)) (ks : List ℤ) → ks ≡ [] → Collected ws ks 0
-none_collected ws ks e = sym (ap (λ (l : List ℤ). behind l (arguments_from 1 ws)) e ∙ behind_nil (arguments_from 1 ws))
-
 -- the bytes of an item at i, among the bytes of all items
 pub bytes-at : {X : Type 0} (f : X → List ℕ) (xs : List X) (i : ℕ) (x : X) (w : List ℕ) → i < length xs → x ≡ get_or xs i x → w ≡ f x → w ≡ get_or (map f xs) i w
 bytes-at f xs i x w l e b = b ∙ ap f e ∙ sym (get_or-map f xs i x w l)
 
 pub within-map : {X : Type 0} (f : X → List ℕ) (xs : List X) (i : ℕ) → i < length xs → i < length (map f xs)
 within-map f xs i l = rw length-map l
-
-pub past-map : {X : Type 0} (f : X → List ℕ) (xs : List X) (i : ℕ) → length xs ≤ i → length (map f xs) ≤ i
-past-map f xs i l = rw length-map l
 
 -- the word at i
 at_word : (ws : List (List ℕ)) (ks : List ℤ) (i : ℕ) (w : List ℕ) → i < length ws → w ≡ get_or ws i w → Collected ws ks i → arguments_of ws ≡ behind ks (with_first (i + 1) (argument_of (meaning w)) (arguments_from (i + 1 + 1) (drop (i + 1) ws)))
@@ -56,11 +45,6 @@ one_collected ws ks more i w z f l e a m c =
 pub wrong_one : (ws : List (List ℕ)) (ks : List ℤ) (i : ℕ) (w : List ℕ) (r : Refusal) → i < length ws → w ≡ get_or ws i w → Err r ≡ argument_of (meaning w) → Collected ws ks i → Err (record { refusal = r; at = i + 1 }) ≡ arguments_of ws
 wrong_one ws ks i w r l e a c =
     sym (at_word ws ks i w l e c ∙ ap (λ (r : Result ℤ Refusal). behind ks (with_first (i + 1) r (arguments_from (i + 1 + 1) (drop (i + 1) ws)))) (sym a))
-
--- the end of the words
-pub all_collected : (ws : List (List ℕ)) (ks : List ℤ) (i : ℕ) → length ws ≤ i → Collected ws ks i → Ok ks ≡ arguments_of ws
-all_collected ws ks i l c =
-    sym (c ∙ at_drop_all (λ (vs : List (List ℕ)). behind ks (arguments_from (i + 1) vs)) ws i l ∙ ap (λ (l : List ℤ). Ok l) (append-nil ks))
 
 -- the first wrong word is told
 pub collects_wrong : (a : Result (List ℤ) WrongArgument) (w : WrongArgument) → Err w ≡ a → Collects a (Err (Wrong w))

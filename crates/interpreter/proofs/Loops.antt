@@ -32,10 +32,6 @@ pub record Come (f : ℕ → Code) (all : Course) (v : ℕ) (vs : List ℕ) (s :
   pub values : length s ≤ most_parameters + k
   pub chains : length vs ≤ k
 
-spent_after : (x : Spent) (c : Course) → (spent_of (spend x c)).steps ≡ x.steps + (spent_of c).steps
-spent_after x (done s y) = refl
-spent_after x (stopped e y) = refl
-
 module _ (f : ℕ → Code) (all : Course) (v : ℕ) (vs : List ℕ) (s : Stack ℕ) (k : ℕ) (h : Come f all v vs s k) where
   pub ended : (w : ℕ) (ws : List ℕ) (t : Stack ℕ) → Went f v s vs (Ok Ended) w t ws → record { outcome = result t; spent = steps k } ≡ concluded all
   ended w ws t (e, same) =

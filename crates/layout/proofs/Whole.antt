@@ -83,15 +83,6 @@ goes t u c h l m e =
     step t.places u (at t.places u) l (omega arith) refl f.0 f.1
     ∙ ap (λ (d : Command). command_then (chain t.places) d (chain t.places (at t.places u).next)) e
 
-pub at-numeral : (t : Table) (u : ℕ) (k : ℤ) (vs : List ℕ) → whole t ≡ true → 0 < u → u < table_places → (at t.places u).command ≡ Numeral k → left_of t.places u vs ≡ NumeralEvent k ∷ left_of t.places (at t.places u).next vs
-at-numeral t u k vs h l m e = ap (λ (c : Code). onto c (after t.places vs)) (goes t u (Numeral k) h l m e)
-
-pub at_name : (t : Table) (u : ℕ) (o : CommandName) (vs : List ℕ) → whole t ≡ true → 0 < u → u < table_places → (at t.places u).command ≡ Name o → left_of t.places u vs ≡ NameEvent o ∷ left_of t.places (at t.places u).next vs
-at_name t u o vs h l m e = ap (λ (c : Code). onto c (after t.places vs)) (goes t u (Name o) h l m e)
-
-pub at-sequence : (t : Table) (u f : ℕ) (vs : List ℕ) → whole t ≡ true → 0 < u → u < table_places → (at t.places u).command ≡ Sequence f → left_of t.places u vs ≡ Open ∷ left_of t.places f ((at t.places u).next ∷ vs)
-at-sequence t u f vs h l m e = ap (λ (c : Code). onto c (after t.places vs)) (goes t u (Sequence f) h l m e)
-
 -- a link that leads to no place ends its chain
 ends_at : (t : Table) (v : ℕ) → whole t ≡ true → None ≡ place_at t.places v → chain t.places v ≡ end
 ends_at t v w e = ends v (stops v e)
@@ -105,9 +96,6 @@ ends_at t v w e = ends v (stops v e)
 
     ends : (v : ℕ) → (v ≡ 0) ⊎ (table_places ≤ v) → chain t.places v ≡ end
     ends v s = ⊎_elim (λ x. ap (chain t.places) x) (λ x. past t.places v (omega (arith, long))) s
-
-pub at_end : (t : Table) (v : ℕ) (vs : List ℕ) → whole t ≡ true → None ≡ place_at t.places v → left_of t.places v vs ≡ after t.places vs
-at_end t v vs w e = ap (λ (c : Code). onto c (after t.places vs)) (ends_at t v w e)
 
 -- and one that leads to a place leads to one of the table
 pub at_place : (ps : List Place) (v : ℕ) (p : Place) → Some p ≡ place_at ps v → (0 < v) × (v < table_places) × (p ≡ at ps v)

@@ -1,4 +1,3 @@
 pub mod Steps
 pub mod Records
-pub mod Walking
 pub mod Offers

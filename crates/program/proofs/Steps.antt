@@ -180,10 +180,6 @@ pub cons_of : {A : Type 0} (xs : List A) (x : A) → Some x ≡ head_of xs → x
 cons_of [] x e = cc
 cons_of (y ∷ ys) x e = cc
 
-pub nil_of : {A : Type 0} (xs : List A) → None ≡ head_of xs → xs ≡ []
-nil_of [] e = refl
-nil_of (y ∷ ys) e = cc
-
 module _ (b : Builder) (o : ℕ) (os : List ℕ) (top : held b.opens ≡ o ∷ os) where
   under : holds_draft b.places b.used b.last b.sequences (o ∷ os) ≡ true
   under = subst (λ (x : List ℕ). holds_draft b.places b.used b.last b.sequences x ≡ true) top b.sound
@@ -202,9 +198,6 @@ module _ (b : Builder) (o : ℕ) (os : List ℕ) (top : held b.opens ≡ o ∷ o
 
   pub close_taken : (d : Builder) → Stays b d → working d ≡ draft (append (inner b.places o os) (sequence (inner b.places b.used (o ∷ os)) end)) (outer b.places os) → Took Close b d (Ok tt)
   close_taken d s w = took Close b d _ s (leads_on Close (working b) _ (room b.opens) closes refl) w
-
-pub close-refused : (b d : Builder) → held b.opens ≡ [] → Stays b d → working d ≡ working b → Took Close b d (Err Bracket)
-close-refused b d none s w = refused Close b d Bracket s (leads_nowhere Close (working b) (room b.opens) (ap (λ (x : List ℕ). feed Close (drafted b.places b.used x)) none)) w
 
 -- the end
 

@@ -11,14 +11,12 @@ returns-then-arguments-parameters c =
     answers-wrong_count (length c.args.values.now) (length c.args.chains.now) c.args.program.now.table.parameters (tree_of c.args.program.now) c.args.arguments.now (omega arith) (omega arith)
     (λ e. c.if-arguments-parameters.true (e ∙ sym c.parameters.ensures))
 
-pub run_commands-requires : goal.run_commands-requires
-run_commands-requires c =
-    let v = c.if-values-lt-WORKING_PLACES.false in
-    let w = c.if-chains-lt-WORKING_PLACES.false in
+pub run_commands-requires-clause-few : goal.run_commands-requires-clause-few
+run_commands-requires-clause-few c =
     let n = c.if-arguments-parameters.false in
     let m = c.parameters.ensures in
     let few = (parts_of c.args.program.now.table c.args.program.now.whole).parameters in
-    record { values = omega arith; chains = omega arith; few = omega arith }
+    omega arith
 
 pub returns : goal.returns
 returns c =
