@@ -10,16 +10,7 @@ impl Fault {
     pub fn number(self) -> u8
         ensures { result ≡ fault_number self }
     {
-        match self {
-            Fault::Arguments => 11,
-            Fault::Underflow => 12,
-            Fault::NoNumeral => 13,
-            Fault::NoSequence => 14,
-            Fault::ZeroDivisor => 15,
-            Fault::Index => 16,
-            Fault::Empty => 17,
-            Fault::SequenceOnTop => 18,
-        }
+        self as u8
     }
 
     // The word by which people and formats know the fault.

@@ -10,22 +10,7 @@ impl Refusal {
     pub fn number(self) -> u8
         ensures { result ≡ refusal_number self }
     {
-        match self {
-            Refusal::Long => 1,
-            Refusal::Word => 2,
-            Refusal::Range => 3,
-            Refusal::Bracket => 4,
-            Refusal::Head => 5,
-            Refusal::Crowd => 6,
-            Refusal::Image => 21,
-            Refusal::Book => 22,
-            Refusal::Full => 23,
-            Refusal::Link => 24,
-            Refusal::Space => 25,
-            Refusal::Bare => 31,
-            Refusal::Party => 32,
-            Refusal::Rest => 33,
-        }
+        self as u8
     }
 
     // The word by which people and formats know the refusal.
