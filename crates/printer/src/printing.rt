@@ -1,11 +1,11 @@
 // A program's text, written into lent bytes.
 ghost use Rattle.std.specs.Prelude.{◌≡◌, ◌≤◌, false, [], ◌∷◌, length, take, IfOk, Ok};
-ghost use Rattle.grammar.specs.Printing.{event_token, gap, lay, print as printed};
+ghost use Rattle.grammar.specs.Printing.{event_token, lay, print as printed};
 ghost use Rattle.grammar.specs.Reading.{parse, taken};
 ghost use Rattle.grammar.specs.Words.{name_word};
-ghost use Rattle.program.specs.Programs.{program_of, tree_of};
+ghost use Rattle.program.specs.Programs.{program_of};
+ghost use Rattle.program.specs.Walking.{Ample, left};
 ghost use Rattle.syntax.specs.Bounds.{most_commands};
-ghost use Rattle.syntax.specs.Events.{events};
 ghost use Rattle.printer.specs.Printed.{bytes_after, print_answer};
 ghost use Rattle.printer.specs.Records.{EveryRecordReadsBack};
 ghost use Rattle.printer.specs.Writing.{Adds, close_behind, ending, heading, written};
@@ -43,9 +43,11 @@ fn spell(program: &Program, chains: &mut [u16], out: &mut [u8]) -> Result<usize,
     ensures answer { result ≡ Ok (length (printed (program_of program.now))) }
     ensures bytes { out.new ≡ written out.old (printed (program_of program.now)) }
 {
+    let mut stack = Stack::new(chains);
+    let mut walker = Walker::new(program, &mut stack);
     let mut text = Text::new(out);
     text.put_heading(program.parameters());
-    text.put_commands(program, chains)?;
+    text.put_events(&mut walker)?;
     Ok(text.len())
 }
 
@@ -58,14 +60,12 @@ impl Text<'_> {
         self.put_decimal(parameters as u32);
     }
 
-    // Adds the program's commands and its last bracket.
-    fn put_commands(&mut self, program: &Program, chains: &mut [u16]) -> Result<(), Refusal>
-        requires { most_commands ≤ length chains.old }
+    // Adds the events that a walk has yet to pass, and the last bracket.
+    fn put_events(&mut self, walker: &mut Walker) -> Result<(), Refusal>
+        requires { Ample walker.old }
         ensures answer { result ≡ Ok tt }
-        ensures text { Adds self.old (ending false (events (tree_of program.now))) self.new }
+        ensures text { Adds self.old (ending false (left walker.old)) self.new }
     {
-        let mut stack = Stack::new(chains);
-        let mut walker = Walker::new(program, &mut stack);
         let mut tight = false;
         while let Some(event) = walker.next()? {
             self.put_event(tight, event);
@@ -79,29 +79,14 @@ impl Text<'_> {
     fn put_event(&mut self, tight: bool, event: Event)
         ensures { Adds self.old (lay tight (event_token event ∷ [])) self.new }
     {
-        match event {
-            Event::Numeral(k) => {
-                self.put_gap(tight);
-                self.put_numeral(k);
-            }
-            Event::Name(o) => {
-                self.put_gap(tight);
-                self.put_all(name_text(o));
-            }
-            Event::Open => {
-                self.put_gap(tight);
-                self.put(b'(');
-            }
-            Event::Close => self.put(b')'),
-        }
-    }
-
-    // Adds a blank unless what comes next stands close.
-    fn put_gap(&mut self, tight: bool)
-        ensures { Adds self.old (gap tight []) self.new }
-    {
-        if !tight {
+        if !tight && !matches!(event, Event::Close) {
             self.put(b' ');
+        }
+        match event {
+            Event::Numeral(k) => self.put_numeral(k),
+            Event::Name(o) => self.put_all(name_text(o)),
+            Event::Open => self.put(b'('),
+            Event::Close => self.put(b')'),
         }
     }
 }
