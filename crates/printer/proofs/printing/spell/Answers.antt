@@ -1,4 +1,4 @@
-use Rattle.std.proofs.Common.{◌≡◌, ℕ, List, length, Ok, ap, rules, ◌∙◌, arith}
+use Rattle.std.proofs.Common.{◌≡◌, Ok, ap, rules, ◌∙◌, arith}
 use Rattle.std.specs.List.{fold}
 use Rattle.layout.specs.Tables.{source_of, tree}
 use Rattle.layout.proofs.Whole.{bounded}
