@@ -57,7 +57,7 @@ impl Text<'_> {
         ensures { Adds self.old (heading parameters) self.new }
     {
         self.put_all(b"(postfix ");
-        self.put_decimal(parameters as u32);
+        self.put_decimal(u32::from(parameters));
     }
 
     // Adds the events that a walk has yet to pass, and the last bracket.

@@ -2,10 +2,11 @@
 ghost use Rattle.std.specs.Prelude.{◌≡◌, [], ◌∷◌, decimal};
 ghost use Rattle.std.specs.Fmt.{signed_decimal};
 
-// A text, as long as it is, and as much of it as the lent bytes have room for.
+// A text that is written byte by byte, as far as the lent bytes have room for it.
 #[derive(Drop)]
 pub(crate) struct Text<'a> {
     out: &'a mut [u8],
+    // how long the text is, with what found no room
     len: usize,
 }
 
@@ -56,7 +57,7 @@ impl<'a> Text<'a> {
         }
     }
 
-    // Adds a byte, and sets its place if it is there.
+    // Adds a byte, at its place if that is there.
     pub(crate) fn put(&mut self, byte: u8)
         ensures { Adds self.old (byte ∷ []) self.new }
     {
