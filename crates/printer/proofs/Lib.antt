@@ -1,3 +1,1 @@
-pub mod Digits
-pub mod Printed
-pub mod Written
+pub mod Writing

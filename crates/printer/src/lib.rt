@@ -2,5 +2,6 @@
 #![tactic(auto)]
 
 mod printing;
+mod text;
 
 pub use printing::{every_record_reads_back, print};

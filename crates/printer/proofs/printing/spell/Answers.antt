@@ -1,27 +1,27 @@
-use Rattle.std.proofs.Common.{ℕ, length, Ok, refl, ap, ◌∙◌, subst, arith}
-use Rattle.layout.specs.Tables.{tree}
+use Rattle.std.proofs.Common.{◌≡◌, Ok, ap, rules, ◌∙◌, arith}
+use Rattle.std.specs.List.{fold}
+use Rattle.layout.specs.Tables.{source_of, tree}
 use Rattle.layout.proofs.Whole.{bounded}
-use Rattle.printer.specs.Writing.{Wrote, heading}
-use Rattle.printer.proofs.Printed.{text_fits, text_wrote}
+use Rattle.grammar.specs.Printing.{print}
+use Rattle.grammar.proofs.Printing.{print_is_short}
+use Rattle.printer.specs.Writing.{added, state}
+use Rattle.printer.proofs.Writing.{length_added, text_added}
 use Rattle.printer.proofs.printing.spell.Goals as goal
-
-pub put_heading-at-requires : goal.put_heading-at-requires
-put_heading-at-requires c =
-    let few = (bounded c.args.program.now.table c.args.program.now.whole).parameters in
-    let same = c.parameters.ensures in
-    omega arith
-
-pub put_commands-requires : goal.put_commands-requires
-put_commands-requires c =
-    let begun = c.put_heading-at.ensures.place in
-    let same = ap (λ (k : ℕ). length (heading k)) c.parameters.ensures in
-    record {
-      places = c.requires;
-      short = omega (arith, text_fits c.args.program.now.table.parameters (tree c.args.program.now.table) (bounded c.args.program.now.table c.args.program.now.whole));
-    }
 
 pub returns : goal.returns
 returns c =
-    let begun = subst (λ (k : ℕ). Wrote c.args.out.now 0 (heading k) c.put_heading-at.new.out c.put_heading-at.result) c.parameters.ensures c.put_heading-at.ensures in
-    let w = text_wrote c.args.program.now.table.parameters (tree c.args.program.now.table) _ _ c.put_commands.new.out _ _ _ begun (record { bytes = c.put_commands.ensures.bytes; place = refl }) in
-    record { answer = c.put_commands.ensures.answer ∙ ap (λ m. Ok m) (let p = w.place in omega arith); bytes = w.bytes }
+    let t = c.args.program.now.table in
+    let short = print_is_short (source_of t) (bounded t c.args.program.now.whole) in
+    let events = c.new-walker.ensures.all in
+    let begun = c.new-text.ensures.none in
+    let parameters = c.parameters.ensures in
+    let head = c.put_heading.ensures.text in
+    let rest = c.put_events.ensures.text.text in
+    let whole = text_added t.parameters (tree t) (c.args.out.now, 0) in
+    let all : state c.put_events.new.self ≡ fold added (c.args.out.now, 0) (print (source_of t)) = cc in
+    let bytes = ap (λ s. s.0) all in
+    let len = ap (λ s. s.1) all in
+    record {
+      answer = ap (λ m. Ok m) (c.len.ensures ∙ len ∙ (let n = length_added (print (source_of t)) (c.args.out.now, 0) (omega arith) in omega arith));
+      bytes = search rules;
+    }
