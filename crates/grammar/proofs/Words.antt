@@ -6,9 +6,9 @@ use Rattle.std.specs.Str.Parse.{digits_value}
 use Rattle.std.specs.Str.{all_ascii_digits, bytes_eq}
 use Rattle.std.proofs.lemmas.Int.Digits.{digits_value_more}
 use Rattle.std.proofs.lemmas.Slice.Eq.{bytes_eq-Decides}
-use Rattle.std.proofs.lemmas.List.{at_drop_more, at_drop_all}
+use Rattle.std.proofs.lemmas.List.{at_drop_more}
 use Rattle.std.proofs.lemmas.Str.Parse.{IsNumeralModel, numerals_by_value, tells_all_ascii_digits}
-use Rattle.std.proofs.lemmas.Bool.{cond-true, cond-false, cond_both, ne_eqb, eqb-true, eqb-false, both_ways, le-leb, lt-leb, leb-true, and_left, and_from, and_parts}
+use Rattle.std.proofs.lemmas.Bool.{cond-true, cond-false, cond_both, ne_eqb, eqb-true, lt-leb, leb-true, and_left, and_parts}
 use Rattle.std.proofs.lemmas.Bool.Decides.{nat_tests}
 use Rattle.arithmetic.specs.Numbers.{in_range}
 use Rattle.syntax.specs.declared.Operator.TheVariants.{Add, Div, Eq, Gt, Lt, Mul, Rem, Sub}
@@ -25,24 +25,9 @@ digits_are_numerals = numerals_by_value _ tells_all_ascii_digits
 digit_by_value : (c : ℕ) → digit_value c < 10 → is_ascii_digit c ≡ true
 digit_by_value c h = grind (arith, nat_tests)
 
-other_by_value : (c : ℕ) → (digit_value c < 10 → ⊥) → is_ascii_digit c ≡ false
-other_by_value c h = grind (arith, nat_tests)
-
 pub digits_more : (xs : List ℕ) (i : ℕ) → i < length xs → digit_value (get_or xs i 0) < 10 → all_ascii_digits xs ≡ all_ascii_digits (drop i xs) → all_ascii_digits xs ≡ all_ascii_digits (drop (i + 1) xs)
 digits_more xs i l d e =
     e ∙ at_drop_more all_ascii_digits xs i 0 l ∙ ap (λ b. b && all_ascii_digits (drop (i + 1) xs)) (digit_by_value (get_or xs i 0) d)
-
-digital_not : (xs : List ℕ) → all_ascii_digits xs ≡ false → digital xs ≡ false
-digital_not [] h = refl
-digital_not (c ∷ xs) h = h
-
-pub digits_bad : (xs : List ℕ) (i : ℕ) → i < length xs → (digit_value (get_or xs i 0) < 10 → ⊥) → all_ascii_digits xs ≡ all_ascii_digits (drop i xs) → digital xs ≡ false
-digits_bad xs i l d e =
-    digital_not xs (e ∙ at_drop_more all_ascii_digits xs i 0 l ∙ and_left (is_ascii_digit (get_or xs i 0)) (all_ascii_digits (drop (i + 1) xs)) (other_by_value (get_or xs i 0) d))
-
-pub digits-all : (xs : List ℕ) → 0 < length xs → all_ascii_digits xs ≡ all_ascii_digits (drop (length xs) xs) → digital xs ≡ true
-digits-all [] l e = absurd (omega arith)
-digits-all (c ∷ xs) l e = e ∙ at_drop_all all_ascii_digits (c ∷ xs) (length (c ∷ xs)) (omega arith)
 
 pub digital-from : (w : List ℕ) → 0 < length w → all_ascii_digits w ≡ true → digital w ≡ true
 digital-from [] l h = absurd (omega arith)
@@ -54,18 +39,8 @@ held_more xs i v l e = omega (arith, digits_value_more 10 xs i l)
 
 -- the range
 
-pub in_range_plain : (n : ℕ) → n < 2 ^ 31 → in_range (pos n) ≡ true
-in_range_plain n h = le-leb n 2147483647 (omega arith)
-
 pub out_of_range_plain : (n : ℕ) → 2 ^ 31 ≤ n → in_range (pos n) ≡ false
 out_of_range_plain n h = lt-leb n 2147483647 (omega arith)
-
-in_range_negsuc : (n : ℕ) → n < 2 ^ 31 → in_range (negsuc n) ≡ true
-in_range_negsuc n h = and_from _ _ (le-leb n 2147483647 (omega arith)) refl
-
-pub in_range_minus : (n : ℕ) → n ≤ 2 ^ 31 → in_range (neg_ℤ (pos n)) ≡ true
-in_range_minus zero h = refl
-in_range_minus (suc n) h = in_range_negsuc n (omega arith)
 
 pub out_of_range_minus : (n : ℕ) → 2 ^ 31 < n → in_range (neg_ℤ (pos n)) ≡ false
 out_of_range_minus zero h = absurd (omega arith)

@@ -4,56 +4,28 @@ use Rattle.std.specs.Option.{option_map, ok_or}
 use Rattle.std.specs.Str.Parse.{digits_value}
 use Rattle.std.proofs.lemmas.Bool.{cases_lt, both_ways}
 use Rattle.codes.specs.declared.Refusal.{Refusal}
-use Rattle.codes.specs.declared.Refusal.TheVariants.{Word, Range}
+use Rattle.codes.specs.declared.Refusal.TheVariants.{Word}
 use Rattle.arithmetic.specs.Numbers.{in_range}
 use Rattle.syntax.specs.declared.Event.{Event}
 use Rattle.syntax.specs.declared.Event.TheVariants.{Name as name_event}
 use Rattle.syntax.specs.declared.Name.{Name}
 use Rattle.syntax.specs.Events.{Draft, feed}
 use Rattle.grammar.specs.Words.{Numeral, plain, Meaning, number, command, huge, strange, meaning}
-use Rattle.grammar.specs.Reading.{fed, wrong, follow}
-use Rattle.grammar.proofs.Words.{in_range_plain, out_of_range_plain, in_range_minus, out_of_range_minus, numeral-minus, name_means, means_strange}
+use Rattle.grammar.specs.Reading.{fed, follow}
+use Rattle.grammar.proofs.Words.{out_of_range_plain, out_of_range_minus, numeral-minus, name_means, means_strange}
 use Rattle.lexer.specs.declared.words.NumeralError.{NumeralError}
 use Rattle.lexer.specs.declared.words.NumeralError.TheVariants.{OutOfRange, NoNumeral}
 use Rattle.lexer.specs.Wording.{Digits, Within, Reads, Names, told}
 
--- a value that is held at 2 ^ 32 is in range where the value is, and is then the value
-
-plain-below : (n : ℕ) → in_range (pos n) ≡ true → n < 2 ^ 31
-plain-below n h =
-    ⊎_elim (λ (l : n < 2 ^ 31). l) (λ l. absurd (both_ways (in_range (pos n)) (out_of_range_plain n l) h)) (cases_lt n (2 ^ 31))
-
-plain-beyond : (n : ℕ) → in_range (pos n) ≡ false → 2 ^ 31 ≤ n
-plain-beyond n h =
-    ⊎_elim (λ l. absurd (both_ways (in_range (pos n)) h (in_range_plain n l))) (λ (l : 2 ^ 31 ≤ n). l) (cases_lt n (2 ^ 31))
-
-minus-below : (n : ℕ) → in_range (neg_ℤ (pos n)) ≡ true → n ≤ 2 ^ 31
-minus-below n h =
-    ⊎_elim (λ l. absurd (both_ways (in_range (neg_ℤ (pos n))) (out_of_range_minus n l) h)) (λ (l : n ≤ 2 ^ 31). l) (cases_lt (2 ^ 31) n)
-
-minus-beyond : (n : ℕ) → in_range (neg_ℤ (pos n)) ≡ false → 2 ^ 31 < n
-minus-beyond n h =
-    ⊎_elim (λ (l : 2 ^ 31 < n). l) (λ l. absurd (both_ways (in_range (neg_ℤ (pos n))) h (in_range_minus n l))) (cases_lt (2 ^ 31) n)
-
-held_plain : (n v : ℕ) (r : Result ℤ NumeralError) → v ≡ min n (2 ^ 32) → Within (pos v) r → Within (pos n) r
-held_plain n v (Ok y) e h =
-    let small : v < 2 ^ 31 = plain-below v h.1 in
-    let same : v ≡ n = omega arith in
-    (h.0 ∙ ap pos same, in_range_plain n (omega arith))
-held_plain n v (Err OutOfRange) e h =
-    let large : 2 ^ 31 ≤ v = plain-beyond v h in
-    out_of_range_plain n (omega arith)
-held_plain n v (Err NoNumeral) e h = h
-
-held-minus : (n v : ℕ) (r : Result ℤ NumeralError) → v ≡ min n (2 ^ 32) → Within (neg_ℤ (pos v)) r → Within (neg_ℤ (pos n)) r
-held-minus n v (Ok y) e h =
-    let small : v ≤ 2 ^ 31 = minus-below v h.1 in
-    let same : v ≡ n = omega arith in
-    (h.0 ∙ ap (λ k. neg_ℤ (pos k)) same, in_range_minus n (omega arith))
-held-minus n v (Err OutOfRange) e h =
-    let large : 2 ^ 31 < v = minus-beyond v h in
-    out_of_range_minus n (omega arith)
-held-minus n v (Err NoNumeral) e h = h
+-- a value that is held at 2 ^ 32 is in range where the value is, and is then the value, whatever its sign
+held : (signed : ℕ → ℤ) → ((k : ℕ) → 2 ^ 32 ≤ k → in_range (signed k) ≡ false) → (n v : ℕ) (r : Result ℤ NumeralError) → v ≡ min n (2 ^ 32) → Within (signed v) r → Within (signed n) r
+held signed far n v r e h =
+    ⊎_elim (λ (l : n < 2 ^ 32). subst (λ (k : ℕ). Within (signed k) r) (omega arith) h) (λ (l : 2 ^ 32 ≤ n). beyond r (far v (omega arith)) (far n l) h) (cases_lt n (2 ^ 32))
+  where
+    beyond : (r : Result ℤ NumeralError) → in_range (signed v) ≡ false → in_range (signed n) ≡ false → Within (signed v) r → Within (signed n) r
+    beyond (Ok y) p q h = absurd (both_ways (in_range (signed v)) p h.1)
+    beyond (Err OutOfRange) p q h = q
+    beyond (Err NoNumeral) p q h = h
 
 reads_within : (w : List ℕ) (z : ℤ) (r : Result ℤ NumeralError) → Numeral w z → Within z r → Reads w r
 reads_within w z (Ok y) d h =
@@ -63,12 +35,12 @@ reads_within w z (Err NoNumeral) d h = absurd h
 
 pub reads_plain : (w : List ℕ) (v : ℕ) (z : ℤ) (r : Result ℤ NumeralError) → Digits w (Some v) → z ≡ pos v → Within z r → Reads w r
 reads_plain w v z r d e h =
-    reads_within w (pos (digits_value 10 w)) r (plain d.0) (held_plain (digits_value 10 w) v r d.1 (subst (λ (x : ℤ). Within x r) e h))
+    reads_within w (pos (digits_value 10 w)) r (plain d.0) (held (λ k. pos k) (λ k l. out_of_range_plain k (omega arith)) (digits_value 10 w) v r d.1 (subst (λ (x : ℤ). Within x r) e h))
 
 pub reads_minus : (w : List ℕ) (v : ℕ) (z : ℤ) (r : Result ℤ NumeralError) → 0 < length w → get_or w 0 0 ≡ 45 → Digits (drop 1 w) (Some v) → z ≡ neg_ℤ (pos v) → Within z r → Reads w r
 reads_minus w v z r l m d e h =
     reads_within w (neg_ℤ (pos (digits_value 10 (drop 1 w)))) r (numeral-minus w l m d.0)
-    (held-minus (digits_value 10 (drop 1 w)) v r d.1 (subst (λ (x : ℤ). Within x r) e h))
+    (held (λ k. neg_ℤ (pos k)) (λ k l. out_of_range_minus k (omega arith)) (digits_value 10 (drop 1 w)) v r d.1 (subst (λ (x : ℤ). Within x r) e h))
 
 -- a word that is no numeral
 pub told_name : (w : List ℕ) (n : Option Name) → ((z : ℤ) → Numeral w z → ⊥) → Names w n → ok_or (option_map name_event n) Word ≡ told (meaning w)

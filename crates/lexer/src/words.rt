@@ -1,5 +1,5 @@
 // What a word is: a numeral, a name, or neither.
-ghost use Rattle.std.specs.Prelude.{◌≡◌, ◌^◌};
+ghost use Rattle.std.specs.Prelude.{◌≡◌};
 ghost use Rattle.grammar.specs.Words.{meaning};
 ghost use Rattle.lexer.specs.Wording.{Digits, Names, Reads, Within, told};
 

@@ -7,10 +7,11 @@ use Rattle.std.proofs.lemmas.Bool.{cases_Bool}
 use Rattle.reader.specs.declared.place.Position.{Position}
 use Rattle.reader.specs.Places.{at_line, first_place, past, position_after}
 
--- a line feed, and any other byte
-abbrev pub feeds : ℕ → Bool
-feeds b = b == 10
+-- a line feed ends its line
+abbrev pub line_feed : ℕ → Bool
+line_feed b = b == 10
 
+-- any other byte goes on with it
 abbrev pub other : ℕ → Bool
 other b = not (b == 10)
 
@@ -20,28 +21,28 @@ one_more p (c ∷ bs) b = one_more (past p c) bs b
 
 -- the bytes up to i, told by counting
 abbrev pub Told : List ℕ → ℕ → Type 0
-Told t i = position_after first_place (take i t) ≡ at_line (1 + count_by feeds (take i t)) (1 + suffix_len other (take i t))
+Told t i = position_after first_place (take i t) ≡ at_line (1 + count_by line_feed (take i t)) (1 + suffix_len other (take i t))
 
 module _ (t : List ℕ) (i : ℕ) (l : i < length t) (told : Told t i) where
-  next : position_after first_place (take (i + 1) t) ≡ past (at_line (1 + count_by feeds (take i t)) (1 + suffix_len other (take i t))) (get_or t i 0)
+  next : position_after first_place (take (i + 1) t) ≡ past (at_line (1 + count_by line_feed (take i t)) (1 + suffix_len other (take i t))) (get_or t i 0)
   next = ap (position_after first_place) (take_more t i 0 l) ∙ one_more first_place (take i t) (get_or t i 0) ∙ ap (λ (p : Position). past p (get_or t i 0)) told
 
   same : i + 1 - 1 ≡ i
   same = omega arith
 
-  at_feed : feeds (get_or t i 0) ≡ true → Told t (i + 1)
+  at_feed : line_feed (get_or t i 0) ≡ true → Told t (i + 1)
   at_feed h =
       let none : other (get_or t (i + 1 - 1) 0) ≡ false = rw same (ap not h) in
-      next ∙ rw (h, count_by_more_yes feeds t i 0 l h, suffix_len-take_no other t (i + 1) 0 (omega arith) (omega arith) none) (ap (λ (m : ℕ). at_line m 1) (omega arith))
+      next ∙ rw (h, count_by_more_yes line_feed t i 0 l h, suffix_len-take_no other t (i + 1) 0 (omega arith) (omega arith) none) (ap (λ (m : ℕ). at_line m 1) (omega arith))
 
-  at_other : feeds (get_or t i 0) ≡ false → Told t (i + 1)
+  at_other : line_feed (get_or t i 0) ≡ false → Told t (i + 1)
   at_other h =
       let one : other (get_or t (i + 1 - 1) 0) ≡ true = rw same (ap not h) in
-      next ∙ rw (h, count_by_more_no feeds t i 0 l h, suffix_len-take_yes other t (i + 1) 0 (omega arith) (omega arith) one, same) (ap (at_line (1 + count_by feeds (take i t))) (omega arith))
+      next ∙ rw (h, count_by_more_no line_feed t i 0 l h, suffix_len-take_yes other t (i + 1) 0 (omega arith) (omega arith) one, same) (ap (at_line (1 + count_by line_feed (take i t))) (omega arith))
 
 -- the place after the first n bytes
 pub placed : (t : List ℕ) (n : ℕ) → n ≤ length t → Told t n
 placed t zero l = refl
 placed t (suc n) l =
     let told : Told t n = placed t n (omega arith) in
-    subst (Told t) (add-one n) (⊎_elim (at_feed t n (omega arith) told) (at_other t n (omega arith) told) (cases_Bool (feeds (get_or t n 0))))
+    subst (Told t) (add-one n) (⊎_elim (at_feed t n (omega arith) told) (at_other t n (omega arith) told) (cases_Bool (line_feed (get_or t n 0))))

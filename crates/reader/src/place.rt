@@ -14,13 +14,14 @@ pub fn locate(text: &[u8], at: usize) -> Position
     ensures { result ≡ position_after first_place (take at text.now) }
 {
     let before = &text[..at.min(text.len())];
+    let line_feeds = before.iter().filter(|byte| **byte == b'\n').count();
+    let bytes_since = before
+        .iter()
+        .rev()
+        .take_while(|byte| **byte != b'\n')
+        .count();
     Position {
-        line: 1 + before.iter().filter(|byte| **byte == b'\n').count(),
-        column: 1
-            + before
-                .iter()
-                .rev()
-                .take_while(|byte| **byte != b'\n')
-                .count(),
+        line: 1 + line_feeds,
+        column: 1 + bytes_since,
     }
 }

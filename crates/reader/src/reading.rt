@@ -59,7 +59,8 @@ pub fn read(text: &[u8], brackets: &mut [u16], into: &mut Program) -> Result<(),
     let mut lexer = Lexer::new(text);
     let arity = header(&mut lexer)?;
     let mut opens = Stack::new(brackets);
-    *into = commands(&mut lexer, arity, &mut opens)?;
+    let program = commands(&mut lexer, arity, &mut opens)?;
+    *into = program;
     Ok(())
 }
 
@@ -68,11 +69,11 @@ fn header(lexer: &mut Lexer) -> Result<Arity, ReadError>
     ensures text { text_of lexer.new ≡ text_of lexer.old }
     ensures head { Headed (text_of lexer.old) (program_verdict (rest lexer.old)) (rest lexer.new) result }
 {
-    expect(lexer, |token| matches!(token, Token::Open).then_some(()))?;
-    expect(lexer, |token| match token {
-        Token::Word(word) => (word == b"postfix".as_slice()).then_some(()),
-        _ => None,
-    })?;
+    expect(lexer, |token| (token == Token::Open).then_some(()))?;
+    expect(
+        lexer,
+        |token| (token == Token::Word(b"postfix")).then_some(()),
+    )?;
     expect(lexer, |token| match token {
         Token::Word(word) => digits(word).and_then(Arity::new),
         _ => None,

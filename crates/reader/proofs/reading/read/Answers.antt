@@ -23,17 +23,17 @@ returns-in_err-arity c =
     let r = refuses (length c.args.brackets.now) c.args.text.now c.args.into.now c.from_residual.result c.in_err-arity.field-0.0 p.0 p.1 p.2 b in
     record { reads = r.0; exactly = r.1 }
 
-pub returns-in_err-into : goal.returns-in_err-into
-returns-in_err-into c =
+pub returns-in_err-program : goal.returns-in_err-program
+returns-in_err-program c =
     let v = verdict (length c.args.brackets.now) c.args.text.now c.if-brackets-lt-WORKING_PLACES.false (rest c.new-lexer.result) c.if-text-gt-MOST_BYTES.false c.new-lexer.ensures.rest in
-    let p = err_from_is_err_and c.from_residual-in_err-into.result c.from_residual-in_err-into.ensures.1 in
-    let b = blamed_in (text_of c.header.new.lexer) c.args.text.now (body c.in_ok-arity.arity.count (rest c.header.new.lexer) _) _ c.in_err-into.field-0.0
-    (c.header.ensures.text ∙ c.new-lexer.ensures.text) (v ∙ c.in_ok-arity.ensures.head) c.in_err-into.ensures in
-    let r = refuses (length c.args.brackets.now) c.args.text.now c.args.into.now c.from_residual-in_err-into.result c.in_err-into.field-0.0 p.0 p.1 p.2 b in
+    let p = err_from_is_err_and c.from_residual-in_err-program.result c.from_residual-in_err-program.ensures.1 in
+    let b = blamed_in (text_of c.header.new.lexer) c.args.text.now (body c.in_ok-arity.arity.count (rest c.header.new.lexer) _) _ c.in_err-program.field-0.0
+    (c.header.ensures.text ∙ c.new-lexer.ensures.text) (v ∙ c.in_ok-arity.ensures.head) c.in_err-program.ensures in
+    let r = refuses (length c.args.brackets.now) c.args.text.now c.args.into.now c.from_residual-in_err-program.result c.in_err-program.field-0.0 p.0 p.1 p.2 b in
     record { reads = r.0; exactly = r.1 }
 
 pub returns : goal.returns
 returns c =
     let v = verdict (length c.args.brackets.now) c.args.text.now c.if-brackets-lt-WORKING_PLACES.false (rest c.new-lexer.result) c.if-text-gt-MOST_BYTES.false c.new-lexer.ensures.rest in
-    let e = v ∙ c.in_ok-arity.ensures.head ∙ c.in_ok-into.ensures in
+    let e = v ∙ c.in_ok-arity.ensures.head ∙ c.in_ok-program.ensures in
     record { reads = e; exactly = spelled_out (length c.args.brackets.now) c.args.text.now c.if-brackets-lt-WORKING_PLACES.false _ c.if-text-gt-MOST_BYTES.false e }
