@@ -1,14 +1,14 @@
 -- Digits byte by byte, the range, names, and with them what a word means.
-use Rattle.std.proofs.Common.{◌≡◌, ℕ, zero, suc, ◌+◌, ◌-◌, ◌*◌, ◌^◌, ◌<◌, ◌≤◌, min, true, false, ◌&&◌, eqb, leb, List, [], ◌∷◌, length, get_or, take, drop, ℤ, pos, negsuc, neg_ℤ, sym, refl, ap, ◌∙◌, subst, arith}
+use Rattle.std.proofs.Common.{◌≡◌, ℕ, zero, suc, ◌+◌, ◌*◌, ◌^◌, ◌<◌, ◌≤◌, min, true, false, ◌&&◌, eqb, leb, List, [], ◌∷◌, length, get_or, take, drop, ℤ, pos, negsuc, neg_ℤ, sym, refl, ap, ◌∙◌, subst, arith}
 use lib.Signed.{mag}
 use Rattle.std.specs.Char.{is_ascii_digit, digit_value}
 use Rattle.std.specs.Str.Parse.{digits_value}
 use Rattle.std.specs.Str.{all_ascii_digits, bytes_eq}
 use Rattle.std.proofs.lemmas.Int.Digits.{digits_value_more}
 use Rattle.std.proofs.lemmas.Slice.Eq.{bytes_eq-Decides}
-use Rattle.std.proofs.lemmas.List.{at_drop_more, at_drop_all}
+use Rattle.std.proofs.lemmas.List.{at_drop_more}
 use Rattle.std.proofs.lemmas.Str.Parse.{IsNumeralModel, numerals_by_value, tells_all_ascii_digits}
-use Rattle.std.proofs.lemmas.Bool.{cond-true, cond-false, cond_both, ne_eqb, eqb-true, eqb-false, both_ways, le-leb, lt-leb, leb-true, and_left, and_from, and_parts}
+use Rattle.std.proofs.lemmas.Bool.{cond-true, cond-false, cond_both, ne_eqb, eqb-true, lt-leb, leb-true, and_left, and_parts}
 use Rattle.std.proofs.lemmas.Bool.Decides.{nat_tests}
 use Rattle.arithmetic.specs.Numbers.{in_range}
 use Rattle.syntax.specs.declared.Operator.TheVariants.{Add, Div, Eq, Gt, Lt, Mul, Rem, Sub}
@@ -22,56 +22,25 @@ use Rattle.grammar.specs.Words.{name_word, names, digital, Meaning, number, comm
 pub digits_are_numerals : IsNumeralModel (λ ds. all_ascii_digits ds ≡ true) (digits_value 10)
 digits_are_numerals = numerals_by_value _ tells_all_ascii_digits
 
-digit_test : (c : ℕ) → 48 ≤ c → c ≤ 57 → is_ascii_digit c ≡ true
-digit_test c l h = grind (arith, nat_tests)
+digit_by_value : (c : ℕ) → digit_value c < 10 → is_ascii_digit c ≡ true
+digit_by_value c h = grind (arith, nat_tests)
 
-pub digits_more : (xs : List ℕ) (i : ℕ) → i < length xs → 48 ≤ get_or xs i 0 → get_or xs i 0 ≤ 57 → all_ascii_digits xs ≡ all_ascii_digits (drop i xs) → all_ascii_digits xs ≡ all_ascii_digits (drop (i + 1) xs)
-digits_more xs i l low high e =
-    e ∙ at_drop_more all_ascii_digits xs i 0 l ∙ ap (λ b. b && all_ascii_digits (drop (i + 1) xs)) (digit_test (get_or xs i 0) low high)
-
-digital_not : (xs : List ℕ) → all_ascii_digits xs ≡ false → digital xs ≡ false
-digital_not [] h = refl
-digital_not (c ∷ xs) h = h
-
-pub digits_bad : (xs : List ℕ) (i : ℕ) → i < length xs → is_ascii_digit (get_or xs i 0) ≡ false → all_ascii_digits xs ≡ all_ascii_digits (drop i xs) → digital xs ≡ false
-digits_bad xs i l bad e =
-    digital_not xs (e ∙ at_drop_more all_ascii_digits xs i 0 l ∙ and_left (is_ascii_digit (get_or xs i 0)) (all_ascii_digits (drop (i + 1) xs)) bad)
-
-pub low_bad : (c : ℕ) → c < 48 → is_ascii_digit c ≡ false
-low_bad c h = grind (arith, nat_tests)
-
-pub high_bad : (c : ℕ) → 57 < c → is_ascii_digit c ≡ false
-high_bad c h = grind (arith, nat_tests)
-
-pub digits-all : (xs : List ℕ) → 0 < length xs → all_ascii_digits xs ≡ all_ascii_digits (drop (length xs) xs) → digital xs ≡ true
-digits-all [] l e = absurd (omega arith)
-digits-all (c ∷ xs) l e = e ∙ at_drop_all all_ascii_digits (c ∷ xs) (length (c ∷ xs)) (omega arith)
+pub digits_more : (xs : List ℕ) (i : ℕ) → i < length xs → digit_value (get_or xs i 0) < 10 → all_ascii_digits xs ≡ all_ascii_digits (drop i xs) → all_ascii_digits xs ≡ all_ascii_digits (drop (i + 1) xs)
+digits_more xs i l d e =
+    e ∙ at_drop_more all_ascii_digits xs i 0 l ∙ ap (λ b. b && all_ascii_digits (drop (i + 1) xs)) (digit_by_value (get_or xs i 0) d)
 
 pub digital-from : (w : List ℕ) → 0 < length w → all_ascii_digits w ≡ true → digital w ≡ true
 digital-from [] l h = absurd (omega arith)
 digital-from (c ∷ w) l h = h
 
-digit_value_lem : (c : ℕ) → 48 ≤ c → c ≤ 57 → digit_value c ≡ c - 48
-digit_value_lem c l h = grind (arith, nat_tests)
-
 -- a value that is held at 2 ^ 32, one digit more
-pub held_more : (xs : List ℕ) (i v : ℕ) → i < length xs → 48 ≤ get_or xs i 0 → get_or xs i 0 ≤ 57 → v ≡ min (digits_value 10 (take i xs)) (2 ^ 32) → min (v * 10 + (get_or xs i 0 - 48)) (2 ^ 32) ≡ min (digits_value 10 (take (i + 1) xs)) (2 ^ 32)
-held_more xs i v l low high e = omega (arith, digits_value_more 10 xs i l, digit_value_lem (get_or xs i 0) low high)
+pub held_more : (xs : List ℕ) (i v : ℕ) → i < length xs → v ≡ min (digits_value 10 (take i xs)) (2 ^ 32) → min (2 ^ 32) (v * 10 + digit_value (get_or xs i 0)) ≡ min (digits_value 10 (take (i + 1) xs)) (2 ^ 32)
+held_more xs i v l e = omega (arith, digits_value_more 10 xs i l)
 
 -- the range
 
-pub in_range_plain : (n : ℕ) → n < 2 ^ 31 → in_range (pos n) ≡ true
-in_range_plain n h = le-leb n 2147483647 (omega arith)
-
 pub out_of_range_plain : (n : ℕ) → 2 ^ 31 ≤ n → in_range (pos n) ≡ false
 out_of_range_plain n h = lt-leb n 2147483647 (omega arith)
-
-in_range_negsuc : (n : ℕ) → n < 2 ^ 31 → in_range (negsuc n) ≡ true
-in_range_negsuc n h = and_from _ _ (le-leb n 2147483647 (omega arith)) refl
-
-pub in_range_minus : (n : ℕ) → n ≤ 2 ^ 31 → in_range (neg_ℤ (pos n)) ≡ true
-in_range_minus zero h = refl
-in_range_minus (suc n) h = in_range_negsuc n (omega arith)
 
 pub out_of_range_minus : (n : ℕ) → 2 ^ 31 < n → in_range (neg_ℤ (pos n)) ≡ false
 out_of_range_minus zero h = absurd (omega arith)
@@ -200,18 +169,6 @@ says (c ∷ cs) =
 pub numeral-minus : (w : List ℕ) → 0 < length w → get_or w 0 0 ≡ 45 → digital (drop 1 w) ≡ true → Numeral w (neg_ℤ (pos (digits_value 10 (drop 1 w))))
 numeral-minus [] l h d = absurd (omega arith)
 numeral-minus (c ∷ cs) l h d = subst (λ k. Numeral (k ∷ cs) (neg_ℤ (pos (digits_value 10 cs)))) (sym h) (minus d)
-
-digital_no_minus : (w : List ℕ) → get_or w 0 0 ≡ 45 → digital w ≡ true → ⊥
-digital_no_minus [] h d = let z : ◌≡◌ {A = ℕ} 0 1 = cc in omega arith
-digital_no_minus (c ∷ cs) h d = eqb-false c 45 (digital-head c cs d) h
-
-pub no_numeral_minus : (w : List ℕ) → get_or w 0 0 ≡ 45 → digital (drop 1 w) ≡ false → (z : ℤ) → Numeral w z → ⊥
-no_numeral_minus w h d _ (plain e) = digital_no_minus w h e
-no_numeral_minus _ h d _ (minus {w} e) = both_ways (digital w) d e
-
-pub no_numeral_plain : (w : List ℕ) → (0 < length w → get_or w 0 0 ≡ 45 → ⊥) → digital w ≡ false → (z : ℤ) → Numeral w z → ⊥
-no_numeral_plain w h d _ (plain e) = both_ways (digital w) d e
-no_numeral_plain _ h d _ (minus e) = h (omega arith) refl
 
 -- a word with no other meaning is no numeral and no name
 

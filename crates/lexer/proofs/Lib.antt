@@ -1,1 +1,3 @@
+pub mod Runs
+pub mod Calls
 pub mod Valued

@@ -1,69 +1,51 @@
 -- From the digits of a word to the number that it writes, and what a word's command does to a draft.
-use Rattle.std.proofs.Common.{◌≡◌, ℕ, ◌^◌, ◌<◌, ◌≤◌, min, true, false, List, length, get_or, drop, ℤ, pos, neg_ℤ, Some, Ok, Err, Result, sym, ap, ◌∙◌, subst, ⊎_elim, arith}
+use Rattle.std.proofs.Common.{◌≡◌, ℕ, ◌^◌, ◌<◌, ◌≤◌, min, true, false, List, length, get_or, drop, ℤ, pos, neg_ℤ, Some, None, Option, Ok, Err, Result, sym, ap, ◌∙◌, subst, ⊎_elim, arith}
+use Rattle.std.specs.Option.{option_map, ok_or}
 use Rattle.std.specs.Str.Parse.{digits_value}
 use Rattle.std.proofs.lemmas.Bool.{cases_lt, both_ways}
 use Rattle.codes.specs.declared.Refusal.{Refusal}
-use Rattle.codes.specs.declared.Refusal.TheVariants.{Word, Range}
+use Rattle.codes.specs.declared.Refusal.TheVariants.{Word}
 use Rattle.arithmetic.specs.Numbers.{in_range}
 use Rattle.syntax.specs.declared.Event.{Event}
+use Rattle.syntax.specs.declared.Event.TheVariants.{Name as name_event}
+use Rattle.syntax.specs.declared.Name.{Name}
 use Rattle.syntax.specs.Events.{Draft, feed}
-use Rattle.grammar.specs.Words.{Numeral, plain, Meaning, number, command, huge, strange}
-use Rattle.grammar.specs.Reading.{fed, wrong, follow}
-use Rattle.grammar.proofs.Words.{in_range_plain, out_of_range_plain, in_range_minus, out_of_range_minus, numeral-minus}
-use Rattle.lexer.specs.declared.words.Reading.{Reading}
-use Rattle.lexer.specs.declared.words.Reading.TheVariants.{Number, OutOfRange, NoNumeral}
-use Rattle.lexer.specs.Wording.{Digits, Within, Reads, told}
+use Rattle.grammar.specs.Words.{Numeral, plain, Meaning, number, command, huge, strange, meaning}
+use Rattle.grammar.specs.Reading.{fed, follow}
+use Rattle.grammar.proofs.Words.{out_of_range_plain, out_of_range_minus, numeral-minus, name_means, means_strange}
+use Rattle.lexer.specs.declared.words.NumeralError.{NumeralError}
+use Rattle.lexer.specs.declared.words.NumeralError.TheVariants.{OutOfRange, NoNumeral}
+use Rattle.lexer.specs.Wording.{Digits, Within, Reads, Names, told}
 
--- a value that is held at 2 ^ 32 is in range where the value is, and is then the value
+-- a value that is held at 2 ^ 32 is in range where the value is, and is then the value, whatever its sign
+held : (signed : ℕ → ℤ) → ((k : ℕ) → 2 ^ 32 ≤ k → in_range (signed k) ≡ false) → (n v : ℕ) (r : Result ℤ NumeralError) → v ≡ min n (2 ^ 32) → Within (signed v) r → Within (signed n) r
+held signed far n v r e h =
+    ⊎_elim (λ (l : n < 2 ^ 32). subst (λ (k : ℕ). Within (signed k) r) (omega arith) h) (λ (l : 2 ^ 32 ≤ n). beyond r (far v (omega arith)) (far n l) h) (cases_lt n (2 ^ 32))
+  where
+    beyond : (r : Result ℤ NumeralError) → in_range (signed v) ≡ false → in_range (signed n) ≡ false → Within (signed v) r → Within (signed n) r
+    beyond (Ok y) p q h = absurd (both_ways (in_range (signed v)) p h.1)
+    beyond (Err OutOfRange) p q h = q
+    beyond (Err NoNumeral) p q h = h
 
-plain-below : (n : ℕ) → in_range (pos n) ≡ true → n < 2 ^ 31
-plain-below n h =
-    ⊎_elim (λ (l : n < 2 ^ 31). l) (λ l. absurd (both_ways (in_range (pos n)) (out_of_range_plain n l) h)) (cases_lt n (2 ^ 31))
-
-plain-beyond : (n : ℕ) → in_range (pos n) ≡ false → 2 ^ 31 ≤ n
-plain-beyond n h =
-    ⊎_elim (λ l. absurd (both_ways (in_range (pos n)) h (in_range_plain n l))) (λ (l : 2 ^ 31 ≤ n). l) (cases_lt n (2 ^ 31))
-
-minus-below : (n : ℕ) → in_range (neg_ℤ (pos n)) ≡ true → n ≤ 2 ^ 31
-minus-below n h =
-    ⊎_elim (λ l. absurd (both_ways (in_range (neg_ℤ (pos n))) (out_of_range_minus n l) h)) (λ (l : n ≤ 2 ^ 31). l) (cases_lt (2 ^ 31) n)
-
-minus-beyond : (n : ℕ) → in_range (neg_ℤ (pos n)) ≡ false → 2 ^ 31 < n
-minus-beyond n h =
-    ⊎_elim (λ (l : 2 ^ 31 < n). l) (λ l. absurd (both_ways (in_range (neg_ℤ (pos n))) h (in_range_minus n l))) (cases_lt (2 ^ 31) n)
-
-held_plain : (n v : ℕ) (r : Reading) → v ≡ min n (2 ^ 32) → Within (pos v) r → Within (pos n) r
-held_plain n v (Number y) e h =
-    let small : v < 2 ^ 31 = plain-below v h.1 in
-    let same : v ≡ n = omega arith in
-    (h.0 ∙ ap pos same, in_range_plain n (omega arith))
-held_plain n v OutOfRange e h =
-    let large : 2 ^ 31 ≤ v = plain-beyond v h in
-    out_of_range_plain n (omega arith)
-held_plain n v NoNumeral e h = h
-
-held-minus : (n v : ℕ) (r : Reading) → v ≡ min n (2 ^ 32) → Within (neg_ℤ (pos v)) r → Within (neg_ℤ (pos n)) r
-held-minus n v (Number y) e h =
-    let small : v ≤ 2 ^ 31 = minus-below v h.1 in
-    let same : v ≡ n = omega arith in
-    (h.0 ∙ ap (λ k. neg_ℤ (pos k)) same, in_range_minus n (omega arith))
-held-minus n v OutOfRange e h =
-    let large : 2 ^ 31 < v = minus-beyond v h in
-    out_of_range_minus n (omega arith)
-held-minus n v NoNumeral e h = h
-
-reads_within : (w : List ℕ) (z : ℤ) (r : Reading) → Numeral w z → Within z r → Reads w r
-reads_within w z (Number y) d h =
+reads_within : (w : List ℕ) (z : ℤ) (r : Result ℤ NumeralError) → Numeral w z → Within z r → Reads w r
+reads_within w z (Ok y) d h =
     (subst (Numeral w) (sym h.0) d, subst (λ x. in_range x ≡ true) (sym h.0) h.1)
-reads_within w z OutOfRange d h = (z, d, h)
-reads_within w z NoNumeral d h = absurd h
+reads_within w z (Err OutOfRange) d h = (z, d, h)
+reads_within w z (Err NoNumeral) d h = absurd h
 
-pub reads_plain : (w : List ℕ) (v : ℕ) (r : Reading) → Digits w (Some v) → Within (pos v) r → Reads w r
-reads_plain w v r d h = reads_within w (pos (digits_value 10 w)) r (plain d.0) (held_plain (digits_value 10 w) v r d.1 h)
+pub reads_plain : (w : List ℕ) (v : ℕ) (z : ℤ) (r : Result ℤ NumeralError) → Digits w (Some v) → z ≡ pos v → Within z r → Reads w r
+reads_plain w v z r d e h =
+    reads_within w (pos (digits_value 10 w)) r (plain d.0) (held (λ k. pos k) (λ k l. out_of_range_plain k (omega arith)) (digits_value 10 w) v r d.1 (subst (λ (x : ℤ). Within x r) e h))
 
-pub reads_minus : (w : List ℕ) (v : ℕ) (r : Reading) → 0 < length w → get_or w 0 0 ≡ 45 → Digits (drop 1 w) (Some v) → Within (neg_ℤ (pos v)) r → Reads w r
-reads_minus w v r l m d h =
-    reads_within w (neg_ℤ (pos (digits_value 10 (drop 1 w)))) r (numeral-minus w l m d.0) (held-minus (digits_value 10 (drop 1 w)) v r d.1 h)
+pub reads_minus : (w : List ℕ) (v : ℕ) (z : ℤ) (r : Result ℤ NumeralError) → 0 < length w → get_or w 0 0 ≡ 45 → Digits (drop 1 w) (Some v) → z ≡ neg_ℤ (pos v) → Within z r → Reads w r
+reads_minus w v z r l m d e h =
+    reads_within w (neg_ℤ (pos (digits_value 10 (drop 1 w)))) r (numeral-minus w l m d.0)
+    (held (λ k. neg_ℤ (pos k)) (λ k l. out_of_range_minus k (omega arith)) (digits_value 10 (drop 1 w)) v r d.1 (subst (λ (x : ℤ). Within x r) e h))
+
+-- a word that is no numeral
+pub told_name : (w : List ℕ) (n : Option Name) → ((z : ℤ) → Numeral w z → ⊥) → Names w n → ok_or (option_map name_event n) Word ≡ told (meaning w)
+told_name w (Some o) h n = ap told (sym (ap meaning n ∙ name_means o))
+told_name w None h n = ap told (sym (means_strange w h n))
 
 -- what a word does to a draft, by the command that it is
 
@@ -75,9 +57,3 @@ follow_ok (number z) e d h = ap (λ x. fed (feed x d)) (sym (same_event e _ h))
 follow_ok (command o) e d h = ap (λ x. fed (feed x d)) (sym (same_event e _ h))
 follow_ok huge e d h = let z : ◌≡◌ {A = ℕ} 0 1 = cc in absurd (omega arith)
 follow_ok strange e d h = let z : ◌≡◌ {A = ℕ} 0 1 = cc in absurd (omega arith)
-
-pub follow_err : (m : Meaning) (e : Refusal) (d : Draft) → Err e ≡ told m → follow m d ≡ wrong e
-follow_err (number z) e d h = let y : ◌≡◌ {A = ℕ} 0 1 = cc in absurd (omega arith)
-follow_err (command o) e d h = let y : ◌≡◌ {A = ℕ} 0 1 = cc in absurd (omega arith)
-follow_err huge e d h = let same : Range ≡ e = cc in ap wrong same
-follow_err strange e d h = let same : Word ≡ e = cc in ap wrong same

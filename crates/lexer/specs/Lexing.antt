@@ -1,5 +1,5 @@
 -- What a lexer has before it, and what it gives.
-use Rattle.std.specs.Prelude.{◌≡◌, ℕ, ◌<◌, false, List, [], ◌∷◌, length, drop, Some, None, Option, slice_index}
+use Rattle.std.specs.Prelude.{◌≡◌, ℕ, ◌<◌, ◌≤◌, Bool, false, not, ◌&&◌, ◌||◌, ◌==◌, List, [], ◌∷◌, length, drop, Some, None, Option, slice_index}
 use Rattle.grammar.specs.Tokens.{Token as Lexeme, opening, closing, word, white, tokens}
 use Rattle.lexer.specs.declared.lexer.Token.{Token}
 use Rattle.lexer.specs.declared.lexer.Token.TheVariants.{Open, Close, Word}
@@ -29,3 +29,19 @@ first (Some t) ts = lexeme t ∷ ts
 abbrev pub Begins : Lexer → Option Token → Lexer → Type 0
 Begins old None l = (l.start ≡ old.start) × (rest l ≡ [])
 Begins old (Some t) l = (l.start < length (text_of l)) × (white (slice_index (text_of l) l.start) ≡ false) × (tokens (drop l.start (text_of l)) ≡ rest old)
+
+-- what a call of `next` gives: the token and those after it are those that were before it, it begins where `start` says,
+-- and the text stays
+pub record Gives (old : Lexer) (t : Option Token) (l : Lexer) : Type 0 where
+  pub gives : rest old ≡ first t (rest l)
+  pub begins : Begins old t l
+  pub stays : text_of l ≡ text_of old
+
+-- a byte that words are made of
+abbrev pub is_of_word : ℕ → Bool
+is_of_word c = not (c == 40 || c == 41) && not (white c)
+
+-- the token at the front of a text, and how many bytes it takes
+abbrev pub Leads : List ℕ → Option (Token × ℕ) → Type 0
+Leads text None = text ≡ []
+Leads text (Some p) = (p.1 ≤ length text) × (0 < length text) × (tokens text ≡ lexeme p.0 ∷ tokens (drop p.1 text))

@@ -8,8 +8,8 @@ use Rattle.syntax.specs.declared.Name.{Name}
 use Rattle.syntax.specs.declared.Event.{Event}
 use Rattle.syntax.specs.declared.Event.TheVariants.{Numeral as numeral_event, Name as name_event}
 use Rattle.grammar.specs.Words.{digital, name_word, Numeral, Meaning, number, command, huge, strange}
-use Rattle.lexer.specs.declared.words.Reading.{Reading}
-use Rattle.lexer.specs.declared.words.Reading.TheVariants.{Number, OutOfRange, NoNumeral}
+use Rattle.lexer.specs.declared.words.NumeralError.{NumeralError}
+use Rattle.lexer.specs.declared.words.NumeralError.TheVariants.{OutOfRange, NoNumeral}
 
 -- the value of a word of digits, which is held at 2 ^ 32; nothing of any other word
 abbrev pub Digits : List ℕ → Option ℕ → Type 0
@@ -17,16 +17,16 @@ Digits w None = digital w ≡ false
 Digits w (Some v) = (digital w ≡ true) × (v ≡ min (digits_value 10 w) (2 ^ 32))
 
 -- a number, if it is one of the language
-abbrev pub Within : ℤ → Reading → Type 0
-Within z (Number y) = (y ≡ z) × (in_range z ≡ true)
-Within z OutOfRange = in_range z ≡ false
-Within z NoNumeral = ⊥
+abbrev pub Within : ℤ → Result ℤ NumeralError → Type 0
+Within z (Ok y) = (y ≡ z) × (in_range z ≡ true)
+Within z (Err OutOfRange) = in_range z ≡ false
+Within z (Err NoNumeral) = ⊥
 
 -- the number that a numeral is, that a numeral is out of range, or that a word is no numeral
-abbrev pub Reads : List ℕ → Reading → Type 0
-Reads w (Number z) = Numeral w z × (in_range z ≡ true)
-Reads w OutOfRange = (z : ℤ) × Numeral w z × (in_range z ≡ false)
-Reads w NoNumeral = (z : ℤ) → Numeral w z → ⊥
+abbrev pub Reads : List ℕ → Result ℤ NumeralError → Type 0
+Reads w (Ok z) = Numeral w z × (in_range z ≡ true)
+Reads w (Err OutOfRange) = (z : ℤ) × Numeral w z × (in_range z ≡ false)
+Reads w (Err NoNumeral) = (z : ℤ) → Numeral w z → ⊥
 
 -- the name that has this word, or that none has
 abbrev pub Names : List ℕ → Option Name → Type 0

@@ -2,7 +2,8 @@
 #![tactic(auto)]
 
 mod lexer;
+mod lexing;
 mod words;
 
 pub use lexer::{Lexer, Token};
-pub use words::{Reading, command, digits, name, numeral};
+pub use words::{NumeralError, command, digits, name, numeral};

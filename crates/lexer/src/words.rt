@@ -1,15 +1,14 @@
 // What a word is: a numeral, a name, or neither.
-ghost use Rattle.std.specs.Prelude.{◌≡◌, ◌^◌, pos, neg_ℤ};
+ghost use Rattle.std.specs.Prelude.{◌≡◌};
 ghost use Rattle.grammar.specs.Words.{meaning};
 ghost use Rattle.lexer.specs.Wording.{Digits, Names, Reads, Within, told};
 
 use codes::Refusal;
 use syntax::{Event, Name, Operator};
 
-// A word read as a numeral.
+// Why a word is no number of the language.
 #[derive(Clone, Copy, PartialEq, Eq, Debug)]
-pub enum Reading {
-    Number(i32),
+pub enum NumeralError {
     OutOfRange,
     NoNumeral,
 }
@@ -21,59 +20,31 @@ const HELD: u64 = 4294967296;
 pub fn digits(word: &[u8]) -> Option<u64>
     ensures { Digits word.now result }
 {
-    if word.len() == 0 {
+    if word.is_empty() {
         return None;
     }
-    let mut all: u64 = 0;
-    for b in word {
-        let byte = *b;
-        if byte < b'0' || byte > b'9' {
-            return None;
-        }
-        all = all * 10 + (byte - b'0') as u64;
-        if all > HELD {
-            all = HELD;
-        }
+    let mut all = 0;
+    for byte in word {
+        let digit = char::from(*byte).to_digit(10)?;
+        all = HELD.min(all * 10 + u64::from(digit));
     }
     Some(all)
 }
 
-// So much, if it is in range.
-fn above_zero(all: u64) -> Reading
-    ensures { Within (pos all) result }
+// The number with this value, if it is in range.
+fn number(value: i64) -> Result<i32, NumeralError>
+    ensures { Within value result }
 {
-    if all < 2147483648 {
-        Reading::Number(all as i32)
-    } else {
-        Reading::OutOfRange
-    }
-}
-
-// So much below zero, if it is in range.
-fn below_zero(all: u64) -> Reading
-    ensures { Within (neg_ℤ (pos all)) result }
-{
-    if all <= 2147483648 {
-        Reading::Number((0 - all as i64) as i32)
-    } else {
-        Reading::OutOfRange
-    }
+    i32::try_from(value).map_err(|_| NumeralError::OutOfRange)
 }
 
 // The number that a word writes, if it is a numeral in range.
-pub fn numeral(word: &[u8]) -> Reading
+pub fn numeral(word: &[u8]) -> Result<i32, NumeralError>
     ensures { Reads word.now result }
 {
-    if word.len() > 0 && word[0] == b'-' {
-        match digits(&word[1..]) {
-            Some(all) => below_zero(all),
-            None => Reading::NoNumeral,
-        }
-    } else {
-        match digits(word) {
-            Some(all) => above_zero(all),
-            None => Reading::NoNumeral,
-        }
+    match word {
+        [b'-', size @ ..] => number(-(digits(size).ok_or(NumeralError::NoNumeral)? as i64)),
+        _ => number(digits(word).ok_or(NumeralError::NoNumeral)? as i64),
     }
 }
 
@@ -81,46 +52,23 @@ pub fn numeral(word: &[u8]) -> Reading
 pub fn name(word: &[u8]) -> Option<Name>
     ensures { Names word.now result }
 {
-    if word == b"add".as_slice() {
-        return Some(Name::Operator(Operator::Add));
-    }
-    if word == b"div".as_slice() {
-        return Some(Name::Operator(Operator::Div));
-    }
-    if word == b"eq".as_slice() {
-        return Some(Name::Operator(Operator::Eq));
-    }
-    if word == b"exec".as_slice() {
-        return Some(Name::Exec);
-    }
-    if word == b"gt".as_slice() {
-        return Some(Name::Operator(Operator::Gt));
-    }
-    if word == b"lt".as_slice() {
-        return Some(Name::Operator(Operator::Lt));
-    }
-    if word == b"mul".as_slice() {
-        return Some(Name::Operator(Operator::Mul));
-    }
-    if word == b"nget".as_slice() {
-        return Some(Name::Nget);
-    }
-    if word == b"pop".as_slice() {
-        return Some(Name::Pop);
-    }
-    if word == b"rem".as_slice() {
-        return Some(Name::Operator(Operator::Rem));
-    }
-    if word == b"sel".as_slice() {
-        return Some(Name::Sel);
-    }
-    if word == b"sub".as_slice() {
-        return Some(Name::Operator(Operator::Sub));
-    }
-    if word == b"swap".as_slice() {
-        return Some(Name::Swap);
-    }
-    None
+    let name = match word {
+        b"add" => Name::Operator(Operator::Add),
+        b"div" => Name::Operator(Operator::Div),
+        b"eq" => Name::Operator(Operator::Eq),
+        b"exec" => Name::Exec,
+        b"gt" => Name::Operator(Operator::Gt),
+        b"lt" => Name::Operator(Operator::Lt),
+        b"mul" => Name::Operator(Operator::Mul),
+        b"nget" => Name::Nget,
+        b"pop" => Name::Pop,
+        b"rem" => Name::Operator(Operator::Rem),
+        b"sel" => Name::Sel,
+        b"sub" => Name::Operator(Operator::Sub),
+        b"swap" => Name::Swap,
+        _ => return None,
+    };
+    Some(name)
 }
 
 // The command that a word is, or why it is none.
@@ -128,11 +76,8 @@ pub fn command(word: &[u8]) -> Result<Event, Refusal>
     ensures { result ≡ told (meaning word.now) }
 {
     match numeral(word) {
-        Reading::Number(number) => Ok(Event::Numeral(number)),
-        Reading::OutOfRange => Err(Refusal::Range),
-        Reading::NoNumeral => match name(word) {
-            Some(found) => Ok(Event::Name(found)),
-            None => Err(Refusal::Word),
-        },
+        Ok(number) => Ok(Event::Numeral(number)),
+        Err(NumeralError::OutOfRange) => Err(Refusal::Range),
+        Err(NumeralError::NoNumeral) => name(word).map(Event::Name).ok_or(Refusal::Word),
     }
 }

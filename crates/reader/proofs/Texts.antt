@@ -1,14 +1,16 @@
 -- A whole text: what its verdict is, and that a refused text spells no program.
-use Rattle.std.proofs.Common.{◌≡◌, ℕ, ◌≤◌, List, length, sym, ap, ◌∙◌, subst}
+use Rattle.std.proofs.Common.{◌≡◌, ℕ, ◌≤◌, Err, Result, List, [], length, sym, refl, ap, ◌∙◌, subst}
+use Rattle.codes.specs.declared.Refusal.{Refusal}
 use Rattle.syntax.specs.Bounds.{most_bytes, working_places}
 use Rattle.syntax.specs.Code.{Source}
 use Rattle.grammar.specs.Tokens.{Token as Lexeme, tokens}
-use Rattle.grammar.specs.Reading.{Verdict, taken, program, reading}
+use Rattle.grammar.specs.Reading.{Verdict, taken, refused, program, reading}
 use Rattle.grammar.specs.Grammar.{Spells}
 use Rattle.grammar.proofs.Reading.{parse_short, reading_in_enough_places}
 use Rattle.grammar.proofs.Accepting.{accepts_the_grammar}
+use Rattle.program.specs.declared.record.Program.{Program}
 use Rattle.reader.specs.declared.reading.ReadError.{ReadError}
-use Rattle.reader.specs.Reads.{Blames}
+use Rattle.reader.specs.Reads.{Blames, Exactly, ReadAs, Spot, Unplaced}
 
 module _ (places : ℕ) (text : List ℕ) (enough : working_places ≤ places) where
   pub verdict : (ts : List Lexeme) → length text ≤ most_bytes → ts ≡ tokens text → reading places text ≡ program ts
@@ -24,6 +26,14 @@ unspelled places text x b enough l p s =
     let e : reading places text ≡ taken p = reading_in_enough_places places text enough ∙ (accepts_the_grammar text p).1 (l, s) in
     subst (λ (v : Verdict). Blames text v x) e b
 
--- the same text, by another name
+-- a refusal for which no token is to blame
+pub blames_none : (text : List ℕ) (v : Verdict) (e : Refusal) (x : ReadError) → v ≡ refused e [] → Unplaced e x → Blames text v x
+blames_none text v e x h u = subst (λ (w : Verdict). Blames text w x) (sym h) (u.0, subst (Spot text []) (sym u.1) tt)
+
+-- the same text and the same verdict, by another name
 pub blamed_in : (t u : List ℕ) (v w : Verdict) (x : ReadError) → t ≡ u → w ≡ v → Blames t v x → Blames u w x
 blamed_in t u v w x e f b = subst (λ (y : List ℕ). Blames y w x) e (subst (λ (y : Verdict). Blames t y x) (sym f) b)
+
+-- an answer that refuses the text, and leaves the record
+pub refuses : (places : ℕ) (text : List ℕ) (p : Program) (r : Result (Unit {0}) ReadError) (x y : ReadError) → r ≡ Err y → y ≡ x → Blames text (reading places text) x → ReadAs places text p p r × Exactly places text p r
+refuses places text p r x y e f b = rw (e, f) ((refl, b), unspelled places text x b)

@@ -1,22 +1,19 @@
 -- What reading a text answers, and what the record holds then.
-use Rattle.std.specs.Prelude.{◌≡◌, ℕ, ◌<◌, ◌≤◌, false, List, [], ◌∷◌, length, drop, Some, None, Ok, Err, Option, Result, ◌≢◌, slice_index}
-use Rattle.std.specs.Borrow.{Bor}
+use Rattle.std.specs.Prelude.{◌≡◌, ℕ, ◌<◌, ◌≤◌, false, List, [], ◌∷◌, length, drop, Some, None, Ok, Err, Option, Result, ◌⊎◌, slice_index}
 use Rattle.codes.specs.declared.Refusal.{Refusal}
-use Rattle.codes.specs.declared.Refusal.TheVariants.{Head}
+use Rattle.codes.specs.declared.Refusal.TheVariants.{Bracket, Head}
 use Rattle.syntax.specs.Bounds.{most_bytes, working_places}
 use Rattle.syntax.specs.Code.{Code, Source}
 use Rattle.syntax.specs.Events.{Draft, draft, blank}
-use Rattle.grammar.specs.Tokens.{Token as Lexeme, opening, word, white, tokens}
+use Rattle.grammar.specs.Tokens.{Token as Lexeme, white, tokens}
 use Rattle.grammar.specs.Reading.{Verdict, taken, refused, Step, goes, ends, wrong, body, reading}
 use Rattle.grammar.specs.Grammar.{Spells}
-use Rattle.lexer.specs.declared.lexer.Lexer.{Lexer}
-use Rattle.lexer.specs.Lexing.{rest}
+use Rattle.lexer.specs.declared.lexer.Token.{Token}
+use Rattle.lexer.specs.Lexing.{lexeme}
 use Rattle.program.specs.declared.arity.Arity.{Arity}
 use Rattle.program.specs.declared.record.Program.{Program}
 use Rattle.program.specs.Programs.{program_of}
 use Rattle.reader.specs.declared.reading.ReadError.{ReadError}
-use Rattle.reader.specs.declared.reading.Turn.{Turn}
-use Rattle.reader.specs.declared.reading.Turn.TheVariants.{GoesOn, Ends}
 
 -- where the first of some tokens begins in a text: at a byte that is not white and from which on the tokens are these;
 -- nowhere where there are none
@@ -48,23 +45,22 @@ abbrev pub Exactly : ℕ → List ℕ → Program → Result (Unit {0}) ReadErro
 Exactly places text after (Ok u) = (working_places ≤ places) × (length text ≤ most_bytes) × Spells (tokens text) (program_of after)
 Exactly places text after (Err x) = working_places ≤ places → length text ≤ most_bytes → (p : Source) → Spells (tokens text) p → ⊥
 
--- the next token is an opening bracket, and us follow; or the head is refused at it
-abbrev pub Opens : List ℕ → List Lexeme → List Lexeme → Result (Unit {0}) ReadError → Type 0
-Opens text ts us (Ok u) = ts ≡ opening ∷ us
-Opens text ts us (Err x) = (x.refusal ≡ Head) × Spot text ts x.at × ((vs : List Lexeme) → ts ≢ opening ∷ vs)
+-- an error that blames no token
+abbrev pub Unplaced : Refusal → ReadError → Type 0
+Unplaced e x = (x.refusal ≡ e) × (x.at ≡ None)
 
--- the next token is a word, which begins where the lexer says; or the head is refused at it
-abbrev pub WordNext : List ℕ → List Lexeme → Lexer → Result (Bor (List ℕ)) ReadError → Type 0
-WordNext text ts l (Ok w) = (ts ≡ word w.now ∷ rest l) × Spot text ts (Some l.start)
-WordNext text ts l (Err x) = (x.refusal ≡ Head) × Spot text ts x.at × ((w : List ℕ) (vs : List Lexeme) → ts ≢ word w ∷ vs)
+-- the next token gives what is wanted of it, and us follow; or the head is refused at it
+abbrev pub Expected : {T : Type 0} → (Token → Option T → Type 0) → List ℕ → List Lexeme → List Lexeme → Result T ReadError → Type 0
+Expected gives text ts us (Ok x) = (t : Token) × (ts ≡ lexeme t ∷ us) × gives t (Some x)
+Expected gives text ts us (Err x) = (x.refusal ≡ Head) × Spot text ts x.at × ((ts ≡ []) ⊎ ((t : Token) × (ts ≡ lexeme t ∷ us) × gives t None))
 
 -- the first three tokens: reading goes on with the commands, which us are; or the head is refused
 abbrev pub Headed : List ℕ → Verdict → List Lexeme → Result Arity ReadError → Type 0
 Headed text v us (Ok a) = v ≡ body a.count us blank
 Headed text v us (Err x) = Blames text v x
 
--- what a token does to a draft that a builder holds
-abbrev pub Turned : Step → Draft → Draft → Result Turn Refusal → Type 0
-Turned s old new (Ok GoesOn) = s ≡ goes new
-Turned s old new (Ok Ends) = (c : Code) × (s ≡ ends c) × (old ≡ draft c []) × (new ≡ old)
+-- what a token does to a draft that a builder holds: it leads on, it is the program's last bracket, or it is wrong
+abbrev pub Turned : Step → Draft → Draft → Result (Unit {0}) Refusal → Type 0
+Turned s old new (Ok u) = s ≡ goes new
+Turned s old new (Err Bracket) = (c : Code) × (s ≡ ends c) × (old ≡ draft c []) × (new ≡ old)
 Turned s old new (Err e) = s ≡ wrong e

@@ -13,16 +13,15 @@ pub struct Position {
 pub fn locate(text: &[u8], at: usize) -> Position
     ensures { result ≡ position_after first_place (take at text.now) }
 {
-    let end = at.min(text.len());
-    let mut line = 1;
-    let mut column = 1;
-    for i in 0..end {
-        if text[i] == b'\n' {
-            line += 1;
-            column = 1;
-        } else {
-            column += 1;
-        }
+    let before = &text[..at.min(text.len())];
+    let line_feeds = before.iter().filter(|byte| **byte == b'\n').count();
+    let bytes_since = before
+        .iter()
+        .rev()
+        .take_while(|byte| **byte != b'\n')
+        .count();
+    Position {
+        line: 1 + line_feeds,
+        column: 1 + bytes_since,
     }
-    Position { line, column }
 }

@@ -1,5 +1,5 @@
 // Reading: tokens to events, events to the builder, up to the last bracket or the first wrong token.
-ghost use Rattle.std.specs.Prelude.{◌≡◌, ◌≤◌, [], length};
+ghost use Rattle.std.specs.Prelude.{◌≡◌, ◌≤◌, [], length, Some};
 ghost use Rattle.grammar.specs.Reading.{after, body, program as program_verdict, step};
 ghost use Rattle.lexer.specs.Lexing.{lexeme, rest, text_of};
 ghost use Rattle.program.specs.Building.{working};
@@ -7,7 +7,7 @@ ghost use Rattle.stack.specs.Held.{room};
 ghost use Rattle.syntax.specs.Bounds.{most_commands};
 ghost use Rattle.syntax.specs.Code.{Code};
 ghost use Rattle.syntax.specs.Events.{blank, draft};
-ghost use Rattle.reader.specs.Reads.{Exactly, Headed, Opens, ReadAs, Says, Turned, WordNext};
+ghost use Rattle.reader.specs.Reads.{Exactly, Expected, Headed, ReadAs, Says, Turned, Unplaced};
 
 use codes::Refusal;
 use lexer::{Lexer, Token, command, digits};
@@ -21,11 +21,26 @@ pub struct ReadError {
     pub at: Option<usize>,
 }
 
-// What a token does that is not wrong.
-#[derive(Clone, Copy)]
-enum Turn {
-    GoesOn,
-    Ends,
+impl ReadError {
+    // A refusal of the token that begins at this place.
+    fn placed(refusal: Refusal, place: usize) -> ReadError
+        ensures refusal { result.refusal ≡ refusal }
+        ensures at { result.at ≡ Some place }
+    {
+        ReadError {
+            refusal,
+            at: Some(place),
+        }
+    }
+}
+
+impl From<Refusal> for ReadError {
+    ghost from_gives = { Unplaced };
+
+    // A refusal for which no token is to blame.
+    fn from(refusal: Refusal) -> ReadError {
+        ReadError { refusal, at: None }
+    }
 }
 
 // Reads the text into the record. Refused are, in this order: lent memory of too few places, a text of too many bytes, and
@@ -35,29 +50,16 @@ pub fn read(text: &[u8], brackets: &mut [u16], into: &mut Program) -> Result<(),
     ensures exactly { Exactly (length brackets.old) text.now into.new result }
 {
     if brackets.len() < WORKING_PLACES {
-        return Err(ReadError {
-            refusal: Refusal::Space,
-            at: None,
-        });
+        return Err(Refusal::Space.into());
     }
     if text.len() > MOST_BYTES {
-        return Err(ReadError {
-            refusal: Refusal::Long,
-            at: None,
-        });
+        return Err(Refusal::Long.into());
     }
     let mut lexer = Lexer::new(text);
-    let arity = match header(&mut lexer) {
-        Ok(arity) => arity,
-        Err(error) => return Err(error),
-    };
-    match commands(&mut lexer, arity, brackets) {
-        Ok(program) => {
-            *into = program;
-            Ok(())
-        }
-        Err(error) => Err(error),
-    }
+    let arity = header(&mut lexer)?;
+    let program = commands(&mut lexer, arity, brackets)?;
+    *into = program;
+    Ok(())
 }
 
 // The first three tokens: an opening bracket, the word postfix, and the number of parameters.
@@ -65,62 +67,28 @@ fn header(lexer: &mut Lexer) -> Result<Arity, ReadError>
     ensures text { text_of lexer.new ≡ text_of lexer.old }
     ensures head { Headed (text_of lexer.old) (program_verdict (rest lexer.old)) (rest lexer.new) result }
 {
-    expect_open(lexer)?;
-    let first = next_word(lexer)?;
-    if !(first == b"postfix".as_slice()) {
-        return Err(ReadError {
-            refusal: Refusal::Head,
-            at: Some(lexer.start()),
-        });
-    }
-    let count = next_word(lexer)?;
-    let wrong = ReadError {
-        refusal: Refusal::Head,
-        at: Some(lexer.start()),
-    };
-    let Some(value) = digits(count) else {
-        return Err(wrong);
-    };
-    match Arity::try_from(value) {
-        Ok(arity) => Ok(arity),
-        Err(_) => Err(wrong),
-    }
+    expect(lexer, |token| (token == Token::Open).then_some(()))?;
+    expect(
+        lexer,
+        |token| (token == Token::Word(b"postfix")).then_some(()),
+    )?;
+    expect(lexer, |token| match token {
+        Token::Word(word) => digits(word).and_then(|count| Arity::try_from(count).ok()),
+        _ => None,
+    })
 }
 
-// The next token, which has to be an opening bracket.
-fn expect_open(lexer: &mut Lexer) -> Result<(), ReadError>
+// What is wanted of the next token, which has to be there and to give it.
+fn expect<'a, T, F: FnOnce(Token<'a>) -> Option<T>>(
+    lexer: &mut Lexer<'a>,
+    want: F,
+) -> Result<T, ReadError>
+    requires { F.IsAlwaysCallable want }
     ensures text { text_of lexer.new ≡ text_of lexer.old }
-    ensures opens { Opens (text_of lexer.old) (rest lexer.old) (rest lexer.new) result }
+    ensures next { Expected (F.post want) (text_of lexer.old) (rest lexer.old) (rest lexer.new) result }
 {
-    match lexer.next() {
-        Some(Token::Open) => Ok(()),
-        Some(_) => Err(ReadError {
-            refusal: Refusal::Head,
-            at: Some(lexer.start()),
-        }),
-        None => Err(ReadError {
-            refusal: Refusal::Head,
-            at: None,
-        }),
-    }
-}
-
-// The next token, which has to be a word.
-fn next_word<'a>(lexer: &mut Lexer<'a>) -> Result<&'a [u8], ReadError>
-    ensures text { text_of lexer.new ≡ text_of lexer.old }
-    ensures word { WordNext (text_of lexer.old) (rest lexer.old) lexer.new result }
-{
-    match lexer.next() {
-        Some(Token::Word(word)) => Ok(word),
-        Some(_) => Err(ReadError {
-            refusal: Refusal::Head,
-            at: Some(lexer.start()),
-        }),
-        None => Err(ReadError {
-            refusal: Refusal::Head,
-            at: None,
-        }),
-    }
+    let token = lexer.next().ok_or(Refusal::Head)?;
+    want(token).ok_or(ReadError::placed(Refusal::Head, lexer.start()))
 }
 
 // The commands up to the program's last bracket, which nothing may follow.
@@ -131,22 +99,16 @@ fn commands(lexer: &mut Lexer, arity: Arity, brackets: &mut [u16]) -> Result<Pro
     let mut builder = Builder::new(arity, brackets);
     while let Some(token) = lexer.next() {
         match take(&mut builder, token) {
-            Ok(Turn::GoesOn) => {}
-            Ok(Turn::Ends) => return ended(lexer, &builder),
-            Err(refusal) => return Err(ReadError {
-                refusal,
-                at: Some(lexer.start()),
-            }),
+            Ok(()) => {}
+            Err(Refusal::Bracket) => return ended(lexer, &builder),
+            Err(refusal) => return Err(ReadError::placed(refusal, lexer.start())),
         }
     }
-    Err(ReadError {
-        refusal: Refusal::Bracket,
-        at: None,
-    })
+    Err(Refusal::Bracket.into())
 }
 
-// What one token does to the builder.
-fn take(builder: &mut Builder, token: Token) -> Result<Turn, Refusal>
+// What one token does to the builder. It is refused as a bracket where none is open: then it is the program's last.
+fn take(builder: &mut Builder, token: Token) -> Result<(), Refusal>
     requires { most_commands ≤ room builder.old.opens }
     ensures turned { Turned (step (working builder.old) (lexeme token.entry)) (working builder.old) (working builder.new) result }
     ensures room { room builder.new.opens ≡ room builder.old.opens }
@@ -154,20 +116,10 @@ fn take(builder: &mut Builder, token: Token) -> Result<Turn, Refusal>
     ensures same { builder.new.opens.places.ghost_name ≡ builder.old.opens.places.ghost_name }
 {
     match token {
-        Token::Open => {
-            builder.accept(Event::Open)?;
-        }
-        Token::Close => {
-            if let Err(_) = builder.accept(Event::Close) {
-                return Ok(Turn::Ends);
-            }
-        }
-        Token::Word(word) => {
-            let event = command(word)?;
-            builder.accept(event)?;
-        }
+        Token::Open => builder.accept(Event::Open),
+        Token::Close => builder.accept(Event::Close),
+        Token::Word(word) => builder.accept(command(word)?),
     }
-    Ok(Turn::GoesOn)
 }
 
 // The program, unless a token follows its last bracket.
@@ -175,16 +127,7 @@ fn ended(lexer: &mut Lexer, builder: &Builder) -> Result<Program, ReadError>
     ensures { (c : Code) → working builder.now ≡ draft c [] → Says (text_of lexer.old) (after builder.now.arity.count c (rest lexer.old)) result }
 {
     if lexer.next().is_some() {
-        return Err(ReadError {
-            refusal: Refusal::Bracket,
-            at: Some(lexer.start()),
-        });
+        return Err(ReadError::placed(Refusal::Bracket, lexer.start()));
     }
-    match builder.finish() {
-        Some(program) => Ok(program),
-        None => Err(ReadError {
-            refusal: Refusal::Bracket,
-            at: None,
-        }),
-    }
+    builder.finish().ok_or(Refusal::Bracket.into())
 }

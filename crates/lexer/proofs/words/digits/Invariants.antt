@@ -3,5 +3,5 @@ use Rattle.std.specs.Str.Parse.{digits_value}
 use Rattle.std.specs.Str.{all_ascii_digits}
 use Rattle.lexer.proofs.words.digits.Given as goal
 
-abbrev pub invariant-loop-b : goal.invariant-loop-b
-invariant-loop-b l = (all_ascii_digits l.word ≡ all_ascii_digits (drop l.b-index l.word)) × (l.all ≡ min (digits_value 10 (take l.b-index l.word)) (2 ^ 32))
+abbrev pub invariant-loop-byte : goal.invariant-loop-byte
+invariant-loop-byte l = (all_ascii_digits l.word ≡ all_ascii_digits (drop l.byte-index l.word)) × (l.all ≡ min (digits_value 10 (take l.byte-index l.word)) (2 ^ 32))

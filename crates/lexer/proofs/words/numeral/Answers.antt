@@ -1,28 +1,24 @@
-use Rattle.std.proofs.Common.{ℕ, List, Some, sym, ap, ◌∙◌, subst, arith}
+use Rattle.std.proofs.Common.{ℕ, List, Some, ◌≡◌, ◌≤◌, ◌^◌, subst, arith, to_z, of_z, w64, pos, neg_ℤ, ◌-ℤ◌}
+use Rattle.std.proofs.lemmas.Int.{ints}
 use Rattle.std.proofs.lemmas.List.{take_rest}
-use Rattle.grammar.specs.Words.{digital}
-use Rattle.grammar.proofs.Words.{no_numeral_minus, no_numeral_plain}
 use Rattle.lexer.specs.Wording.{Digits}
 use Rattle.lexer.proofs.Valued.{reads_plain, reads_minus}
 use Rattle.lexer.proofs.words.numeral.Goals as goal
-use Rattle.lexer.proofs.words.numeral.Goals.{else-word-gt0-via-then-word-gt0+else-word-eq45, else-word-gt0-via-else-word-gt0}
 
-pub returns-in-Some : goal.returns-in-Some
-returns-in-Some c =
-    reads_minus c.args.word.now c.in-Some.all c.below_zero.result c.if-word-gt0.true c.if-word-eq45.true
-    (subst (λ (w : List ℕ). Digits w (Some c.in-Some.all)) (take_rest c.args.word.now 1) c.in-Some.ensures)
-    c.below_zero.ensures
+same : (v : ℕ) → v ≤ 2 ^ 32 → to_z w64 v ≡ pos v
+same v h = omega (arith, ints)
 
-pub returns-in-None : goal.returns-in-None
-returns-in-None c =
-    no_numeral_minus c.args.word.now c.if-word-eq45.true (ap digital (sym (take_rest c.args.word.now 1)) ∙ c.in-None.ensures)
+negated : (v : ℕ) → v ≤ 2 ^ 32 → to_z w64 (of_z w64 (pos 0 -ℤ to_z w64 v)) ≡ neg_ℤ (pos v)
+negated v h = omega (arith, ints)
 
-pub returns-in-Some-digits : goal.returns-in-Some-digits
-returns-in-Some-digits c =
-    reads_plain c.args.word.now c.in-Some-digits.all c.above_zero.result c.in-Some-digits.ensures c.above_zero.ensures
+pub returns-in_ok-ok_or-in-45 : goal.returns-in_ok-ok_or-in-45
+returns-in_ok-ok_or-in-45 c =
+    let v = c.in_ok-ok_or-in-45.field-0 in
+    let d = subst (λ (w : List ℕ). Digits w (Some v)) (take_rest c.args.word.now 1) (rw c.in_ok-ok_or-in-45.ensures.ok_part at c.digits.ensures) in
+    reads_minus c.args.word.now v _ c.number.result (omega arith) (omega arith) d (negated v (omega (arith, d.1))) c.number.ensures
 
-pub returns-in-None-digits : goal.returns-in-None-digits
-returns-in-None-digits c =
-    no_numeral_plain c.args.word.now
-    (λ l e. elim c.else-word-gt0.branch [ else-word-gt0-via-then-word-gt0+else-word-eq45 w ↦ w.if-word-eq45.false e | else-word-gt0-via-else-word-gt0 w ↦ omega (arith, w.if-word-gt0.false) ])
-    c.in-None-digits.ensures
+pub returns-in_ok-ok_or-in_default : goal.returns-in_ok-ok_or-in_default
+returns-in_ok-ok_or-in_default c =
+    let v = c.in_ok-ok_or-in_default.field-0 in
+    let d = rw c.in_ok-ok_or-in_default.ensures.ok_part at c.digits-in_default.ensures in
+    reads_plain c.args.word.now v _ c.number-in_default.result d (same v (omega (arith, d.1))) c.number-in_default.ensures
