@@ -14,8 +14,8 @@ pub(crate) struct Plan {
     pub(crate) closing: usize,
     // how many in a hundred groups are kept
     pub(crate) kept: usize,
-    // once in so many turns any command is added; never where it is 0
-    pub(crate) wild: usize,
+    // once in so many turns any command is added, or never
+    pub(crate) wild: Option<usize>,
     // whether a number is to be on top at the end, and whether all the numbers there are to be made one
     pub(crate) settled: bool,
     pub(crate) folded: bool,
@@ -36,7 +36,7 @@ impl Plan {
             opening: 10,
             closing: 20,
             kept: 60,
-            wild: 0,
+            wild: None,
             settled: !dice.once_in(12),
             folded: dice.once_in(2),
         }
@@ -64,7 +64,7 @@ impl Plan {
             0..=3 => careful,
             4..=5 => Plan {
                 length: dice.below(80),
-                wild: 15,
+                wild: Some(15),
                 ..careful
             },
             6 => Plan {
@@ -81,7 +81,7 @@ impl Plan {
             8 => careful.with_many_values(dice),
             _ => Plan {
                 length: dice.below(15),
-                wild: 1,
+                wild: Some(1),
                 settled: false,
                 ..careful
             },
