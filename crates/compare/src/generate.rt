@@ -3,7 +3,7 @@
 ghost use Rattle.std.specs.Prelude.{◌<◌, length};
 
 use crate::dice::Dice;
-use crate::plan::Plan;
+use crate::plan::{Finish, Plan};
 use crate::tree::{MOST_COMMANDS, Piece, Source, WORDS, Word};
 use std::alloc::{AllocError, Global};
 use std::mem;
@@ -117,7 +117,7 @@ impl<'a> Maker<'a> {
             .left
             .saturating_add(MOST_COMMANDS.saturating_sub(self.plan.length));
         self.close_all()?;
-        if self.plan.settled {
+        if self.plan.finish != Finish::Anything {
             self.settle()?;
         }
         Ok(Source {
@@ -178,7 +178,7 @@ impl<'a> Maker<'a> {
                 [.., Kind::Group(_)] => {
                     let _ = self.execute()? || self.drop_one()?;
                 }
-                [.., Kind::Number, Kind::Number] if self.plan.folded => {
+                [.., Kind::Number, Kind::Number] if self.plan.finish == Finish::Folded => {
                     self.change(2, 1)?;
                     self.put_one_of(&OPERATORS[..FAULTLESS])?;
                 }

@@ -2,6 +2,28 @@
 use crate::dice::Dice;
 use crate::tree::MOST_COMMANDS;
 
+// What a program is brought to at its end.
+#[derive(Clone, Copy, PartialEq)]
+pub(crate) enum Finish {
+    // whatever there is
+    Anything,
+    // a number on top
+    Number,
+    // a number on top that is made of all the numbers there
+    Folded,
+}
+
+impl Finish {
+    // Mostly one of the last two.
+    fn drawn(dice: &mut Dice) -> Finish {
+        match (dice.once_in(12), dice.once_in(2)) {
+            (true, _) => Finish::Anything,
+            (false, false) => Finish::Number,
+            (false, true) => Finish::Folded,
+        }
+    }
+}
+
 // How a program is to be made.
 #[derive(Clone, Copy)]
 pub(crate) struct Plan {
@@ -16,9 +38,7 @@ pub(crate) struct Plan {
     pub(crate) kept: usize,
     // once in so many turns any command is added, or never
     pub(crate) wild: Option<usize>,
-    // whether a number is to be on top at the end, and whether all the numbers there are to be made one
-    pub(crate) settled: bool,
-    pub(crate) folded: bool,
+    pub(crate) finish: Finish,
 }
 
 impl Plan {
@@ -37,8 +57,7 @@ impl Plan {
             closing: 20,
             kept: 60,
             wild: None,
-            settled: !dice.once_in(12),
-            folded: dice.once_in(2),
+            finish: Finish::drawn(dice),
         }
     }
 
@@ -82,7 +101,7 @@ impl Plan {
             _ => Plan {
                 length: dice.below(15),
                 wild: Some(1),
-                settled: false,
+                finish: Finish::Anything,
                 ..careful
             },
         }

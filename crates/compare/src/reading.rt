@@ -129,17 +129,15 @@ fn body(heap: Global, tokens: &[Token]) -> Result<Vec<Piece>, Stop<Objection>> {
         if depth == 0 {
             return Err(Objection::Unbalanced.into());
         }
-        let piece = piece_of(token)?;
-        match piece {
-            Piece::Numeral(_) | Piece::Word(_) => commands = commands.saturating_add(1),
-            Piece::Open => {
-                commands = commands.saturating_add(1);
-                depth = depth.saturating_add(1);
-            }
-            Piece::Close => depth -= 1,
-        }
+        let piece = Piece::try_from(token)?;
+        commands = commands.saturating_add(usize::from(piece.is_command()));
         if commands > MOST_COMMANDS {
             return Err(Objection::TooMany.into());
+        }
+        match piece {
+            Piece::Open => depth = depth.saturating_add(1),
+            Piece::Close => depth -= 1,
+            Piece::Numeral(_) | Piece::Word(_) => {}
         }
         if depth > 0 {
             pieces.push(piece)?;
@@ -152,15 +150,19 @@ fn body(heap: Global, tokens: &[Token]) -> Result<Vec<Piece>, Stop<Objection>> {
 }
 
 // What a token is inside a program.
-fn piece_of(token: &Token) -> Result<Piece, Objection> {
-    let letters = match token {
-        Token::Open => return Ok(Piece::Open),
-        Token::Close => return Ok(Piece::Close),
-        Token::Word(letters) => letters.as_slice(),
-    };
-    match Word::spelled(letters) {
-        Some(word) => Ok(Piece::Word(word)),
-        None => Ok(Piece::Numeral(numeral(letters)?)),
+impl TryFrom<&Token> for Piece {
+    type Error = Objection;
+
+    fn try_from(token: &Token) -> Result<Piece, Objection> {
+        let letters = match token {
+            Token::Open => return Ok(Piece::Open),
+            Token::Close => return Ok(Piece::Close),
+            Token::Word(letters) => letters.as_slice(),
+        };
+        match Word::spelled(letters) {
+            Some(word) => Ok(Piece::Word(word)),
+            None => Ok(Piece::Numeral(numeral(letters)?)),
+        }
     }
 }
 

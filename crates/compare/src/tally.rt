@@ -1,10 +1,11 @@
 // How many of each outcome there were.
-use crate::answer::{Answer, FaultNumber, RefusalNumber, Verdict};
+use crate::answer::{FaultNumber, RefusalNumber, Verdict};
 use std::fmt;
 
-// The first of the faults, and of the refusals that come here.
+// The first fault.
 const FIRST_FAULT: u8 = 11;
 
+// The first refusal.
 const FIRST_REFUSAL: u8 = 1;
 
 // How often each of N numbers came, which follow one another from FIRST on.
@@ -52,14 +53,9 @@ impl Tally {
     pub(crate) fn count_program(&mut self, commands: usize, verdict: Verdict) {
         add_one(&mut self.programs);
         self.commands = self.commands.saturating_add(commands as u64);
-        match verdict {
-            Ok(Answer { ending: Ok(_), .. }) => add_one(&mut self.numbers),
-            Ok(
-                Answer {
-                    ending: Err(FaultNumber(number)),
-                    ..
-                },
-            ) => self.faults.add(number),
+        match verdict.map(|answer| answer.ending) {
+            Ok(Ok(_)) => add_one(&mut self.numbers),
+            Ok(Err(FaultNumber(number))) => self.faults.add(number),
             Err(_) => {}
         }
     }

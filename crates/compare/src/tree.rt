@@ -82,6 +82,13 @@ pub(crate) enum Piece {
     Close,
 }
 
+impl Piece {
+    // Whether a command begins here.
+    pub(crate) fn is_command(&self) -> bool {
+        !matches!(self, Piece::Close)
+    }
+}
+
 // A program as its text says it: the number of parameters, and what stands between that and the last bracket.
 #[derive(Drop)]
 pub(crate) struct Source {
@@ -92,10 +99,8 @@ pub(crate) struct Source {
 impl Source {
     // How many commands there are.
     pub(crate) fn commands(&self) -> usize {
-        self.pieces
-            .iter()
-            .filter(|piece| !matches!(piece, Piece::Close))
-            .count()
+        let pieces = self.pieces.iter();
+        pieces.filter(|piece| piece.is_command()).count()
     }
 }
 
