@@ -1,5 +1,21 @@
 // Numbers from a seed: always the same ones from the same seed.
-ghost use Rattle.std.specs.Prelude.{◌<◌};
+ghost use Rattle.std.specs.Prelude.{◌<◌, IfSome, length};
+
+// Numbers at the edges of the range, and some whose sums or products leave it.
+const EDGES: [i32; 12] = [
+    -2_147_483_648,
+    2_147_483_647,
+    -1,
+    0,
+    1,
+    -2_147_483_647,
+    2_147_483_646,
+    65_536,
+    -65_536,
+    46_341,
+    1_073_741_824,
+    -1_073_741_825,
+];
 
 // A source of numbers.
 #[derive(Drop)]
@@ -31,8 +47,40 @@ impl Dice {
         (self.roll() % n as u64) as usize
     }
 
+    // A place among `n`; none where there is none.
+    pub(crate) fn place_in(&mut self, n: usize) -> Option<usize>
+        ensures { IfSome result (λ place. place < n) }
+    {
+        if n == 0 {
+            return None;
+        }
+        Some(self.below(n))
+    }
+
+    // Any of these.
+    pub(crate) fn one_of<T: Copy>(&mut self, items: &[T]) -> T
+        requires { 0 < length items.now }
+    {
+        items[self.below(items.len())]
+    }
+
     // Yes once in `n` times; never where `n` is 0.
     pub(crate) fn once_in(&mut self, n: usize) -> bool {
         n > 0 && self.below(n) == 0
+    }
+
+    // Yes `n` times in a hundred.
+    pub(crate) fn in_hundred(&mut self, n: usize) -> bool {
+        self.below(100) < n
+    }
+
+    // A number of the language: at an edge, small, middling or any.
+    pub(crate) fn number(&mut self) -> i32 {
+        match self.below(8) {
+            0 => self.one_of(&EDGES),
+            1..=4 => self.below(16) as i32 - 3,
+            5..=6 => self.below(2_001) as i32 - 1_000,
+            _ => (self.below(4_294_967_296) as i64 - 2_147_483_648) as i32,
+        }
     }
 }

@@ -1,27 +1,12 @@
 // Programs and arguments from a seed. The maker keeps in mind which kinds of values would lie on the stack, so that most
 // commands find what they take; now and then it adds any command at all.
-use crate::dice::Dice;
-use crate::plan::Plan;
-use crate::tree::{MOST_COMMANDS, Piece, Source, WORDS, Word};
-use crate::trouble::Trouble;
-use std::alloc::Global;
-use std::mem;
+ghost use Rattle.std.specs.Prelude.{◌<◌, length};
 
-// Numbers at the edges of the range, and some whose sums or products leave it.
-const EDGES: [i64; 12] = [
-    -2_147_483_648,
-    2_147_483_647,
-    -1,
-    0,
-    1,
-    -2_147_483_647,
-    2_147_483_646,
-    65_536,
-    -65_536,
-    46_341,
-    1_073_741_824,
-    -1_073_741_825,
-];
+use crate::dice::Dice;
+use crate::plan::{Finish, Plan};
+use crate::tree::{MOST_COMMANDS, Piece, Source, WORDS, Word};
+use std::alloc::{AllocError, Global};
+use std::mem;
 
 // The names that take two numbers and leave one.
 const OPERATORS: [Word; 8] = [
@@ -38,6 +23,38 @@ const OPERATORS: [Word; 8] = [
 // How many of them, from the first on, never fault on numbers and are no comparisons.
 const FAULTLESS: usize = 3;
 
+// What makes programs, arguments and texts: where memory comes from, and a source of numbers.
+#[derive(Drop)]
+pub(crate) struct Generator {
+    pub(crate) heap: Global,
+    pub(crate) dice: Dice,
+}
+
+impl Generator {
+    // What the seed makes.
+    pub(crate) fn new(heap: Global, seed: u64) -> Generator {
+        Generator {
+            heap,
+            dice: Dice::new(seed),
+        }
+    }
+
+    // A program.
+    pub(crate) fn program(&mut self) -> Result<Source, AllocError> {
+        Maker::new(self.heap, &mut self.dice)?.make()
+    }
+
+    // Arguments for a program of so many parameters; now and then another number of them.
+    pub(crate) fn arguments(&mut self, parameters: u8) -> Result<Vec<i32>, AllocError> {
+        let count = if self.dice.once_in(12) {
+            self.dice.below(10)
+        } else {
+            usize::from(parameters)
+        };
+        (0..count).map(|_| self.dice.number()).collect(self.heap)
+    }
+}
+
 // What a group does where it is executed: how many numbers it takes from the top, and how many it leaves there.
 #[derive(Clone, Copy, PartialEq)]
 struct Effect {
@@ -52,26 +69,21 @@ enum Kind {
     Group(Option<Effect>),
 }
 
-// What a group is for.
-#[derive(Clone, Copy)]
-enum Purpose {
-    // it is executed as soon as it is closed
+// A bracket that is open.
+#[derive(Drop)]
+enum Bracket {
+    // the group is executed as soon as it is closed
     Executed,
-    // it is kept as a value, and counts on so many numbers
-    Kept(usize),
+    // the group is kept as a value, and counts on so many numbers; values of these kinds are outside it
+    Kept { takes: usize, outside: Vec<Kind> },
 }
 
-// A bracket that is open, and the kinds of the values outside it where the group is kept.
+// A program in the making, after a plan.
 #[derive(Drop)]
-struct Bracket {
-    purpose: Purpose,
-    outside: Vec<Kind>,
-}
-
-// A program in the making.
-#[derive(Drop)]
-struct Maker {
+struct Maker<'a> {
     heap: Global,
+    dice: &'a mut Dice,
+    plan: Plan,
     pieces: Vec<Piece>,
     kinds: Vec<Kind>,
     brackets: Vec<Bracket>,
@@ -79,198 +91,170 @@ struct Maker {
     left: usize,
 }
 
-// A program.
-pub(crate) fn generate(heap: Global, dice: &mut Dice) -> Result<Source, Trouble> {
-    let plan = Plan::drawn(dice);
-    let mut maker = Maker {
-        heap,
-        pieces: Vec::new(heap),
-        kinds: numbers(heap, usize::from(plan.parameters))?,
-        brackets: Vec::new(heap),
-        left: plan.length,
-    };
-    for _ in 0..MOST_COMMANDS {
-        if maker.left > 0 {
-            maker.turn(dice, plan)?;
+impl<'a> Maker<'a> {
+    // No commands yet, and the parameters as values.
+    fn new(heap: Global, dice: &'a mut Dice) -> Result<Maker<'a>, AllocError> {
+        let plan = Plan::drawn(dice);
+        Ok(Maker {
+            heap,
+            dice,
+            plan,
+            pieces: Vec::new(heap),
+            kinds: vec![in heap; Kind::Number; usize::from(plan.parameters)]?,
+            brackets: Vec::new(heap),
+            left: plan.length,
+        })
+    }
+
+    // The whole program.
+    fn make(mut self) -> Result<Source, AllocError> {
+        for _ in 0..MOST_COMMANDS {
+            if self.left > 0 {
+                self.turn()?;
+            }
         }
-    }
-    maker.left = maker
-        .left
-        .saturating_add(MOST_COMMANDS.saturating_sub(plan.length));
-    maker.close_all(dice)?;
-    if plan.settled {
-        maker.settle(dice, plan)?;
-    }
-    Ok(Source {
-        parameters: plan.parameters,
-        pieces: maker.pieces,
-    })
-}
-
-// Arguments for a program of so many parameters; now and then another number of them.
-pub(crate) fn generate_arguments(
-    heap: Global,
-    dice: &mut Dice,
-    parameters: u8,
-) -> Result<Vec<i32>, Trouble> {
-    let count = if dice.once_in(12) {
-        dice.below(10)
-    } else {
-        usize::from(parameters)
-    };
-    let mut arguments = Vec::new(heap);
-    for _ in 0..count {
-        arguments.push(i32::try_from(number(dice)).unwrap_or(0))?;
-    }
-    Ok(arguments)
-}
-
-// A number: at an edge, small, middling or any.
-fn number(dice: &mut Dice) -> i64 {
-    match dice.below(8) {
-        0 => EDGES[dice.below(EDGES.len())],
-        1..=4 => dice.below(16) as i64 - 3,
-        5..=6 => dice.below(2_001) as i64 - 1_000,
-        _ => dice.below(4_294_967_296) as i64 - 2_147_483_648,
-    }
-}
-
-// So many numbers, as kinds.
-fn numbers(heap: Global, count: usize) -> Result<Vec<Kind>, Trouble> {
-    let mut kinds = Vec::new(heap);
-    for _ in 0..count {
-        kinds.push(Kind::Number)?;
-    }
-    Ok(kinds)
-}
-
-// Whether these are all numbers.
-fn all_numbers(kinds: &[Kind]) -> bool {
-    for kind in kinds {
-        if *kind != Kind::Number {
-            return false;
+        self.left = self
+            .left
+            .saturating_add(MOST_COMMANDS.saturating_sub(self.plan.length));
+        self.close_all()?;
+        if self.plan.finish != Finish::Anything {
+            self.settle()?;
         }
+        Ok(Source {
+            parameters: self.plan.parameters,
+            pieces: self.pieces,
+        })
     }
-    true
-}
 
-impl Maker {
     // Adds a command or a few.
-    fn turn(&mut self, dice: &mut Dice, plan: Plan) -> Result<(), Trouble> {
-        if dice.once_in(plan.wild) {
-            return self.add_anything(dice, plan);
+    fn turn(&mut self) -> Result<(), AllocError> {
+        if let Some(n) = self.plan.wild
+            && self.dice.once_in(n)
+        {
+            return self.add_anything();
         }
-        if dice.below(100) < plan.pushing {
-            return self.push_number(number(dice));
+        if self.dice.in_hundred(self.plan.pushing) {
+            return self.push_any_number();
         }
-        if dice.below(100) < plan.opening {
-            return self.open(dice, plan);
+        if self.dice.in_hundred(self.plan.opening) {
+            return self.open();
         }
-        if dice.below(100) < plan.closing && !self.brackets.is_empty() {
+        if self.dice.in_hundred(self.plan.closing) && !self.brackets.is_empty() {
             return self.close();
         }
-        let added = match dice.below(10) {
+        let added = match self.dice.below(10) {
             0..=1 => false,
-            2..=4 => self.operate(dice)?,
+            2..=4 => self.operate()?,
             5 => self.drop_one()?,
             6 => self.exchange()?,
             7 => self.select()?,
-            8 => self.fetch(dice)?,
-            _ => self.execute()? || self.branch(dice)?,
+            8 => self.fetch()?,
+            _ => self.execute()? || self.branch()?,
         };
         if added {
             Ok(())
         } else {
-            self.push_number(number(dice))
+            self.push_any_number()
         }
     }
 
     // Closes what is open, here and there with one more number behind a bracket.
-    fn close_all(&mut self, dice: &mut Dice) -> Result<(), Trouble> {
-        for _ in 0..MOST_COMMANDS {
-            self.close()?;
-            if !self.brackets.is_empty() && self.left > 0 && dice.once_in(2) {
-                self.push_number(number(dice))?;
+    fn close_all(&mut self) -> Result<(), AllocError> {
+        let brackets = mem::replace(&mut self.brackets, Vec::new(self.heap));
+        for (outer, bracket) in brackets.into_iter().enumerate().rev() {
+            self.close_bracket(bracket)?;
+            if outer > 0 && self.left > 0 && self.dice.once_in(2) {
+                self.push_any_number()?;
             }
         }
         Ok(())
     }
 
     // Brings a number to the top, as far as there is room, and makes one of the numbers there.
-    fn settle(&mut self, dice: &mut Dice, plan: Plan) -> Result<(), Trouble> {
+    fn settle(&mut self) -> Result<(), AllocError> {
         for _ in 0..self.left {
-            match self.kinds.last() {
-                Some(Kind::Number) => {
-                    if !plan.folded || !self.has_numbers(0, 2) {
-                        return Ok(());
-                    }
-                    self.change(2, 1)?;
-                    self.put(Piece::Word(OPERATORS[dice.below(FAULTLESS)]))?;
-                }
-                Some(Kind::Group(_)) => {
+            match self.kinds.as_slice() {
+                [] => self.push_any_number()?,
+                [.., Kind::Group(_)] => {
                     let _ = self.execute()? || self.drop_one()?;
                 }
-                None => self.push_number(number(dice))?,
+                [.., Kind::Number, Kind::Number] if self.plan.finish == Finish::Folded => {
+                    self.change(2, 1)?;
+                    self.put_one_of(&OPERATORS[..FAULTLESS])?;
+                }
+                [.., Kind::Number] => return Ok(()),
             }
         }
         Ok(())
     }
 
     // Adds a command.
-    fn put(&mut self, piece: Piece) -> Result<(), Trouble> {
+    fn put(&mut self, piece: Piece) -> Result<(), AllocError> {
         self.left = self.left.saturating_sub(1);
         self.pieces.push(piece)?;
         Ok(())
     }
 
+    // Adds any of these names.
+    fn put_one_of(&mut self, words: &[Word]) -> Result<(), AllocError>
+        requires { 0 < length words.now }
+    {
+        let word = self.dice.one_of(words);
+        self.put(Piece::Word(word))
+    }
+
     // Adds any command, whatever the values are.
-    fn add_anything(&mut self, dice: &mut Dice, plan: Plan) -> Result<(), Trouble> {
-        match dice.below(10) {
-            0..=2 => self.push_number(number(dice)),
-            3 => self.open(dice, plan),
+    fn add_anything(&mut self) -> Result<(), AllocError> {
+        match self.dice.below(10) {
+            0..=2 => self.push_any_number(),
+            3 => self.open(),
             4 => self.close(),
-            5 => self.fetch_beyond(dice),
+            5 => self.fetch_beyond(),
             6 => self.push_nothing(),
-            _ => self.put(Piece::Word(WORDS[dice.below(WORDS.len())])),
+            _ => self.put_one_of(&WORDS),
         }
     }
 
     // Adds a numeral.
-    fn push_number(&mut self, n: i64) -> Result<(), Trouble> {
+    fn push_number(&mut self, n: i64) -> Result<(), AllocError> {
         self.kinds.push(Kind::Number)?;
         self.put(Piece::Numeral(n))
     }
 
+    // Adds any numeral.
+    fn push_any_number(&mut self) -> Result<(), AllocError> {
+        let n = self.dice.number();
+        self.push_number(i64::from(n))
+    }
+
     // Whether so many values below the first few are there, and are numbers.
     fn has_numbers(&self, below: usize, count: usize) -> bool {
-        let mut seen = 0usize;
-        for kind in self.kinds.iter().rev().skip(below).take(count) {
-            if *kind != Kind::Number {
-                return false;
-            }
-            seen = seen.saturating_add(1);
-        }
-        seen == count
+        self.kinds
+            .iter()
+            .rev()
+            .skip(below)
+            .take(count)
+            .filter(|kind| **kind == Kind::Number)
+            .count()
+            == count
     }
 
     // Takes so many kinds off, and puts so many numbers on.
-    fn change(&mut self, takes: usize, leaves: usize) -> Result<(), Trouble> {
+    fn change(&mut self, takes: usize, leaves: usize) -> Result<(), AllocError> {
         self.kinds.truncate(self.kinds.len().saturating_sub(takes));
-        for _ in 0..leaves {
-            self.kinds.push(Kind::Number)?;
-        }
-        Ok(())
+        self.kinds
+            .resize(self.kinds.len().saturating_add(leaves), Kind::Number)
     }
 
     // Adds an operator where two numbers are on top; a divisor mostly comes with it, and is not zero.
-    fn operate(&mut self, dice: &mut Dice) -> Result<bool, Trouble> {
+    fn operate(&mut self) -> Result<bool, AllocError> {
         if !self.has_numbers(0, 2) {
             return Ok(false);
         }
-        let word = OPERATORS[dice.below(OPERATORS.len())];
-        if matches!(word, Word::Div | Word::Rem) && self.left > 1 && !dice.once_in(8) {
-            let n = number(dice);
-            self.push_number(if n == 0 { 3 } else { n })?;
+        let word = self.dice.one_of(&OPERATORS);
+        if matches!(word, Word::Div | Word::Rem) && self.left > 1 && !self.dice.once_in(8) {
+            let n = self.dice.number();
+            self.push_number(if n == 0 { 3 } else { i64::from(n) })?;
         }
         self.change(2, 1)?;
         self.put(Piece::Word(word))?;
@@ -278,7 +262,7 @@ impl Maker {
     }
 
     // Adds `pop` where there is a value.
-    fn drop_one(&mut self) -> Result<bool, Trouble> {
+    fn drop_one(&mut self) -> Result<bool, AllocError> {
         if self.kinds.pop().is_none() {
             return Ok(false);
         }
@@ -287,25 +271,21 @@ impl Maker {
     }
 
     // Adds `swap` where there are two values.
-    fn exchange(&mut self) -> Result<bool, Trouble> {
-        let len = self.kinds.len();
-        if len < 2 {
+    fn exchange(&mut self) -> Result<bool, AllocError> {
+        let [.., lower, upper] = self.kinds.as_mut_slice() else {
             return Ok(false);
-        }
-        self.kinds.swap(len - 1, len - 2);
+        };
+        mem::swap(lower, upper);
         self.put(Piece::Word(Word::Swap))?;
         Ok(true)
     }
 
     // Adds `sel` where a number is below two values of one kind.
-    fn select(&mut self) -> Result<bool, Trouble> {
-        let Some(upper) = self.kinds.iter().rev().nth(0).copied() else {
+    fn select(&mut self) -> Result<bool, AllocError> {
+        let &[.., Kind::Number, lower, upper] = self.kinds.as_slice() else {
             return Ok(false);
         };
-        let Some(lower) = self.kinds.iter().rev().nth(1).copied() else {
-            return Ok(false);
-        };
-        if upper != lower || !self.has_numbers(2, 1) {
+        if lower != upper {
             return Ok(false);
         }
         self.change(3, 0)?;
@@ -315,8 +295,10 @@ impl Maker {
     }
 
     // Adds an index and `nget` where the index leads to a number.
-    fn fetch(&mut self, dice: &mut Dice) -> Result<bool, Trouble> {
-        let below = dice.below(self.kinds.len());
+    fn fetch(&mut self) -> Result<bool, AllocError> {
+        let Some(below) = self.dice.place_in(self.kinds.len()) else {
+            return Ok(false);
+        };
         let Ok(index) = i64::try_from(below.saturating_add(1)) else {
             return Ok(false);
         };
@@ -329,8 +311,8 @@ impl Maker {
     }
 
     // Adds an index just outside the values and `nget`.
-    fn fetch_beyond(&mut self, dice: &mut Dice) -> Result<(), Trouble> {
-        let index = if dice.once_in(2) {
+    fn fetch_beyond(&mut self) -> Result<(), AllocError> {
+        let index = if self.dice.once_in(2) {
             0
         } else {
             i64::try_from(self.kinds.len().saturating_add(1)).unwrap_or(0)
@@ -343,8 +325,8 @@ impl Maker {
     }
 
     // Adds `exec` where a group is on top that finds what it takes.
-    fn execute(&mut self) -> Result<bool, Trouble> {
-        let Some(Kind::Group(Some(effect))) = self.kinds.last().copied() else {
+    fn execute(&mut self) -> Result<bool, AllocError> {
+        let &[.., Kind::Group(Some(effect))] = self.kinds.as_slice() else {
             return Ok(false);
         };
         if !self.has_numbers(1, effect.takes) {
@@ -356,13 +338,13 @@ impl Maker {
     }
 
     // Adds two groups of an operator each, and executes one of them by what number is on top.
-    fn branch(&mut self, dice: &mut Dice) -> Result<bool, Trouble> {
+    fn branch(&mut self) -> Result<bool, AllocError> {
         if self.left < 6 || !self.has_numbers(0, 3) {
             return Ok(false);
         }
         for _ in 0..2u8 {
             self.put(Piece::Open)?;
-            self.put(Piece::Word(OPERATORS[dice.below(OPERATORS.len())]))?;
+            self.put_one_of(&OPERATORS)?;
             self.pieces.push(Piece::Close)?;
         }
         self.put(Piece::Word(Word::Sel))?;
@@ -372,7 +354,7 @@ impl Maker {
     }
 
     // Adds an empty group.
-    fn push_nothing(&mut self) -> Result<(), Trouble> {
+    fn push_nothing(&mut self) -> Result<(), AllocError> {
         let nothing = Effect {
             takes: 0,
             leaves: 0,
@@ -383,45 +365,45 @@ impl Maker {
         Ok(())
     }
 
-    // Opens a bracket, or adds an empty group.
-    fn open(&mut self, dice: &mut Dice, plan: Plan) -> Result<(), Trouble> {
-        if dice.once_in(6) {
+    // Opens a bracket, or adds an empty group. What is executed at once has its `exec` counted here.
+    fn open(&mut self) -> Result<(), AllocError> {
+        if self.dice.once_in(6) {
             return self.push_nothing();
         }
         self.put(Piece::Open)?;
-        let mut bracket = Bracket {
-            purpose: Purpose::Executed,
-            outside: Vec::new(self.heap),
-        };
-        if self.left == 0 || dice.below(100) < plan.kept {
-            let takes = dice.below(3);
-            bracket.purpose = Purpose::Kept(takes);
-            bracket.outside = mem::replace(&mut self.kinds, numbers(self.heap, takes)?);
+        let bracket = if self.left == 0 || self.dice.in_hundred(self.plan.kept) {
+            let takes = self.dice.below(3);
+            let inside = vec![in self.heap; Kind::Number; takes]?;
+            let outside = mem::replace(&mut self.kinds, inside);
+            Bracket::Kept { takes, outside }
         } else {
             self.left = self.left.saturating_sub(1);
-        }
+            Bracket::Executed
+        };
         self.brackets.push(bracket)?;
         Ok(())
     }
 
-    // Closes the innermost bracket, if one is open. What is executed at once has its `exec` counted already.
-    fn close(&mut self) -> Result<(), Trouble> {
-        let Some(bracket) = self.brackets.pop() else {
-            return Ok(());
-        };
+    // Closes the innermost bracket, if one is open.
+    fn close(&mut self) -> Result<(), AllocError> {
+        match self.brackets.pop() {
+            Some(bracket) => self.close_bracket(bracket),
+            None => Ok(()),
+        }
+    }
+
+    // Closes a bracket that was the innermost.
+    fn close_bracket(&mut self, bracket: Bracket) -> Result<(), AllocError> {
         self.pieces.push(Piece::Close)?;
-        match bracket.purpose {
-            Purpose::Executed => self.pieces.push(Piece::Word(Word::Exec))?,
-            Purpose::Kept(takes) => {
-                let inside = mem::replace(&mut self.kinds, bracket.outside);
-                let effect = if all_numbers(inside.as_slice()) {
-                    Some(Effect {
-                        takes,
-                        leaves: inside.len(),
-                    })
-                } else {
-                    None
-                };
+        match bracket {
+            Bracket::Executed => self.pieces.push(Piece::Word(Word::Exec))?,
+            Bracket::Kept { takes, outside } => {
+                let inside = mem::replace(&mut self.kinds, outside);
+                let leaves = inside.len();
+                let effect = inside
+                    .iter()
+                    .all(|kind| *kind == Kind::Number)
+                    .then_some(Effect { takes, leaves });
                 self.kinds.push(Kind::Group(effect))?;
             }
         }

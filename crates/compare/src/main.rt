@@ -17,8 +17,8 @@ mod trial;
 mod trouble;
 mod verdicts;
 
-use anyhow::anyhow;
-use dice::Dice;
+use anyhow::bail;
+use generate::Generator;
 use std::alloc::Global;
 use std::env;
 use std::process::ExitCode;
@@ -44,53 +44,62 @@ fn main(rt: HostRuntime) -> ExitCode {
 
 // Makes the comparisons, and prints what they came to.
 fn compare(rt: &HostRuntime) -> anyhow::Result<()> {
-    let Some((count, seed)) = settings(rt) else {
+    let Some(settings) = Settings::from_arguments(rt) else {
         rt.eprintln(USAGE)?;
-        return Err(anyhow!("no such settings"));
+        bail!("no such settings");
     };
-    let mut tally = Tally::new();
-    match compare_all(rt.alloc(), count, seed, &mut tally) {
-        Ok(()) => println!(rt; "{tally}differences 0")?,
+    let tally = match settings.compare_all(rt.alloc()) {
+        Ok(tally) => tally,
         Err(Failure::Differs(difference)) => {
             println!(rt; "{difference}")?;
-            return Err(anyhow!("a difference"));
+            bail!("a difference");
         }
         Err(Failure::Trouble(trouble)) => {
             eprintln!(rt; "{trouble}")?;
-            return Err(anyhow!("no comparison"));
+            bail!("no comparison");
         }
-    }
-    if count >= COUNT && !tally.is_full() {
+    };
+    println!(rt; "{tally}differences 0")?;
+    if settings.count >= COUNT && !tally.is_full() {
         rt.println("a fault or a refusal never came")?;
-        return Err(anyhow!("not every outcome came"));
+        bail!("not every outcome came");
     }
     Ok(())
 }
 
-// How many programs are asked for, and from which seed; none where the arguments are something else.
-fn settings(rt: &HostRuntime) -> Option<(u64, u64)> {
-    let mut words = env::args(rt).ok()?;
-    let _program = words.next();
-    let count = match words.next() {
-        Some(word) => word.as_str().parse::<u64>(),
-        None => Ok(COUNT),
-    };
-    let seed = match words.next() {
-        Some(word) => word.as_str().parse::<u64>(),
-        None => Ok(SEED),
-    };
-    match (count, seed, words.next()) {
-        (Ok(count), Ok(seed), None) => Some((count, seed)),
-        _ => None,
+// How many programs are asked for, and from which seed.
+#[derive(Clone, Copy)]
+struct Settings {
+    count: u64,
+    seed: u64,
+}
+
+impl Settings {
+    // What the arguments of the call say; none where they are something else.
+    fn from_arguments(rt: &HostRuntime) -> Option<Settings> {
+        let mut words = env::args(rt).ok()?;
+        let _program = words.next();
+        let count = number_or(words.next(), COUNT)?;
+        let seed = number_or(words.next(), SEED)?;
+        words.next().is_none().then_some(Settings { count, seed })
+    }
+
+    // The table, and then so many programs from the seed.
+    fn compare_all(self, heap: Global) -> Result<Tally, Failure> {
+        let mut tally = Tally::default();
+        compare_examples(heap, &mut tally)?;
+        let mut generator = Generator::new(heap, self.seed);
+        for _ in 0..self.count {
+            compare_generated(&mut generator, &mut tally)?;
+        }
+        Ok(tally)
     }
 }
 
-// The table, and then so many programs from a seed.
-fn compare_all(heap: Global, count: u64, seed: u64, tally: &mut Tally) -> Result<(), Failure> {
-    compare_examples(heap, tally)?;
-    let mut dice = Dice::new(seed);
-    for _ in 0..count {
-        compare_generated(heap, &mut dice, tally)?;
+// The number that a word says, or another one where there is no word.
+fn number_or(word: Option<String>, otherwise: u64) -> Option<u64> {
+    match word {
+        Some(word) => word.as_str().parse::<u64>().ok(),
+        None => Some(otherwise),
     }
-    Ok(())
 }

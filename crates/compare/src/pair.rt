@@ -52,17 +52,17 @@ impl Pair {
 
     // Whether the left side is less than the right, as a number.
     pub(crate) fn less(self) -> i64 {
-        if self.left < self.right { 1 } else { 0 }
+        i64::from(self.left < self.right)
     }
 
     // Whether the sides are equal, as a number.
     pub(crate) fn equal(self) -> i64 {
-        if self.left == self.right { 1 } else { 0 }
+        i64::from(self.left == self.right)
     }
 
     // Whether the left side is greater than the right, as a number.
     pub(crate) fn greater(self) -> i64 {
-        if self.left > self.right { 1 } else { 0 }
+        i64::from(self.left > self.right)
     }
 }
 

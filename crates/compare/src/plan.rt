@@ -2,6 +2,28 @@
 use crate::dice::Dice;
 use crate::tree::MOST_COMMANDS;
 
+// What a program is brought to at its end.
+#[derive(Clone, Copy, PartialEq)]
+pub(crate) enum Finish {
+    // whatever there is
+    Anything,
+    // a number on top
+    Number,
+    // a number on top that is made of all the numbers there
+    Folded,
+}
+
+impl Finish {
+    // Mostly one of the last two.
+    fn drawn(dice: &mut Dice) -> Finish {
+        match (dice.once_in(12), dice.once_in(2)) {
+            (true, _) => Finish::Anything,
+            (false, false) => Finish::Number,
+            (false, true) => Finish::Folded,
+        }
+    }
+}
+
 // How a program is to be made.
 #[derive(Clone, Copy)]
 pub(crate) struct Plan {
@@ -14,11 +36,9 @@ pub(crate) struct Plan {
     pub(crate) closing: usize,
     // how many in a hundred groups are kept
     pub(crate) kept: usize,
-    // once in so many turns any command is added; never where it is 0
-    pub(crate) wild: usize,
-    // whether a number is to be on top at the end, and whether all the numbers there are to be made one
-    pub(crate) settled: bool,
-    pub(crate) folded: bool,
+    // once in so many turns any command is added, or never
+    pub(crate) wild: Option<usize>,
+    pub(crate) finish: Finish,
 }
 
 impl Plan {
@@ -36,9 +56,8 @@ impl Plan {
             opening: 10,
             closing: 20,
             kept: 60,
-            wild: 0,
-            settled: !dice.once_in(12),
-            folded: dice.once_in(2),
+            wild: None,
+            finish: Finish::drawn(dice),
         }
     }
 
@@ -64,7 +83,7 @@ impl Plan {
             0..=3 => careful,
             4..=5 => Plan {
                 length: dice.below(80),
-                wild: 15,
+                wild: Some(15),
                 ..careful
             },
             6 => Plan {
@@ -81,8 +100,8 @@ impl Plan {
             8 => careful.with_many_values(dice),
             _ => Plan {
                 length: dice.below(15),
-                wild: 1,
-                settled: false,
+                wild: Some(1),
+                finish: Finish::Anything,
                 ..careful
             },
         }

@@ -1,156 +1,127 @@
 // The second reader: a text is cut into tokens, each with a copy of its letters, and then the tokens are gone through.
+use crate::answer::RefusalNumber;
 use crate::tree::{MOST_BYTES, MOST_COMMANDS, MOST_PARAMETERS, Piece, Source, Word};
-use crate::trouble::Trouble;
-use std::alloc::{AllocFailed, Global};
+use crate::trouble::Stop;
+use std::alloc::{AllocError, Global};
 use std::mem;
 
 // The largest number.
 const LARGEST: u64 = 2_147_483_647;
 
 // A token.
-#[derive(Drop)]
+#[derive(Clone, Drop)]
 pub(crate) enum Token {
     Open,
     Close,
     Word(Vec<u8>),
 }
 
-// What is wrong with a text.
-#[derive(Clone, Copy)]
-enum Objection {
-    TooLong,
-    NoSuchWord,
-    OutOfRange,
-    Unbalanced,
-    WrongHead,
-    TooMany,
-}
-
-impl Objection {
-    // The number of the refusal.
-    fn number(self) -> u8 {
-        match self {
-            Objection::TooMany => 6,
-            Objection::WrongHead => 5,
-            Objection::Unbalanced => 4,
-            Objection::OutOfRange => 3,
-            Objection::NoSuchWord => 2,
-            Objection::TooLong => 1,
-        }
+impl Token {
+    // A word of these letters.
+    pub(crate) fn word(heap: Global, letters: &[u8]) -> Result<Token, AllocError> {
+        Ok(Token::Word(Vec::from_slice(heap, letters)?))
     }
 }
 
-// Why a text is not read: it is wrong, or there is no answer at all.
+// What is wrong with a text, and the number of the refusal.
 #[derive(Clone, Copy)]
-enum Stop {
-    Objection(Objection),
-    Trouble(Trouble),
+pub(crate) enum Objection {
+    TooLong = 1,
+    NoSuchWord = 2,
+    OutOfRange = 3,
+    Unbalanced = 4,
+    WrongHead = 5,
+    TooMany = 6,
+}
+
+// The number that stands beside the objection.
+impl From<Objection> for RefusalNumber {
+    fn from(objection: Objection) -> RefusalNumber {
+        RefusalNumber(objection as u8)
+    }
 }
 
 // What is wrong with a text stops the reading.
-impl From<Objection> for Stop {
-    fn from(objection: Objection) -> Stop {
-        Stop::Objection(objection)
+impl From<Objection> for Stop<Objection> {
+    fn from(objection: Objection) -> Stop<Objection> {
+        Stop::Said(objection)
     }
-}
-
-// So does trouble in a part of it.
-impl From<Trouble> for Stop {
-    fn from(trouble: Trouble) -> Stop {
-        Stop::Trouble(trouble)
-    }
-}
-
-// So does a token or a piece for which there is no memory.
-impl<T: Drop> From<AllocFailed<T>> for Stop {
-    fn from(_e: AllocFailed<T>) -> Stop {
-        Stop::Trouble(Trouble::Memory)
-    }
-}
-
-// A program, or the number of a refusal.
-#[derive(Drop)]
-pub(crate) enum Reading {
-    Program(Source),
-    Refused(u8),
 }
 
 // Reads a text.
-pub(crate) fn second_reading(heap: Global, text: &[u8]) -> Result<Reading, Trouble> {
-    match source_of(heap, text) {
-        Ok(source) => Ok(Reading::Program(source)),
-        Err(Stop::Objection(objection)) => Ok(Reading::Refused(objection.number())),
-        Err(Stop::Trouble(trouble)) => Err(trouble),
-    }
-}
-
-// The program of a text.
-fn source_of(heap: Global, text: &[u8]) -> Result<Source, Stop> {
+pub(crate) fn second_reading(heap: Global, text: &[u8]) -> Result<Source, Stop<Objection>> {
     if text.len() > MOST_BYTES {
         return Err(Objection::TooLong.into());
     }
-    let tokens = split(heap, text)?;
-    let Some(parameters) = head(tokens.as_slice()) else {
-        return Err(Objection::WrongHead.into());
-    };
+    let tokens = Splitter::new(heap).split(text)?;
+    let parameters = head(tokens.as_slice()).ok_or(Objection::WrongHead)?;
     let pieces = body(heap, tokens.as_slice())?;
     Ok(Source { parameters, pieces })
 }
 
-// The tokens of a text.
-fn split(heap: Global, text: &[u8]) -> Result<Vec<Token>, Trouble> {
-    let mut tokens = Vec::new(heap);
-    let mut letters = Vec::new(heap);
-    for byte in text {
-        match *byte {
-            b'\t' | b'\n' | b'\r' | b' ' => end_word(heap, &mut letters, &mut tokens)?,
-            b'(' => {
-                end_word(heap, &mut letters, &mut tokens)?;
-                tokens.push(Token::Open)?;
-            }
-            b')' => {
-                end_word(heap, &mut letters, &mut tokens)?;
-                tokens.push(Token::Close)?;
-            }
-            letter => letters.push(letter)?,
-        }
-    }
-    end_word(heap, &mut letters, &mut tokens)?;
-    Ok(tokens)
+// A text on its way to tokens: those so far, and the letters of a word that has not ended.
+#[derive(Drop)]
+struct Splitter {
+    heap: Global,
+    tokens: Vec<Token>,
+    letters: Vec<u8>,
 }
 
-// Makes a word of the letters so far, if there are any.
-fn end_word(heap: Global, letters: &mut Vec<u8>, tokens: &mut Vec<Token>) -> Result<(), Trouble> {
-    if !letters.is_empty() {
-        let word = mem::replace(letters, Vec::new(heap));
-        tokens.push(Token::Word(word))?;
+impl Splitter {
+    // Nothing yet.
+    fn new(heap: Global) -> Splitter {
+        Splitter {
+            heap,
+            tokens: Vec::new(heap),
+            letters: Vec::new(heap),
+        }
     }
-    Ok(())
+
+    // The tokens of a text.
+    fn split(mut self, text: &[u8]) -> Result<Vec<Token>, AllocError> {
+        for byte in text {
+            match *byte {
+                b'\t' | b'\n' | b'\r' | b' ' => self.end_word()?,
+                b'(' => self.put_bracket(Token::Open)?,
+                b')' => self.put_bracket(Token::Close)?,
+                letter => self.letters.push(letter)?,
+            }
+        }
+        self.end_word()?;
+        Ok(self.tokens)
+    }
+
+    // Makes a word of the letters so far, if there are any.
+    fn end_word(&mut self) -> Result<(), AllocError> {
+        if !self.letters.is_empty() {
+            let word = mem::replace(&mut self.letters, Vec::new(self.heap));
+            self.tokens.push(Token::Word(word))?;
+        }
+        Ok(())
+    }
+
+    // Ends a word, and adds a bracket.
+    fn put_bracket(&mut self, bracket: Token) -> Result<(), AllocError> {
+        self.end_word()?;
+        self.tokens.push(bracket)?;
+        Ok(())
+    }
 }
 
 // The number of parameters, if the first three tokens are as they should be.
 fn head(tokens: &[Token]) -> Option<u8> {
-    let Some(Token::Open) = tokens.first() else {
-        return None;
-    };
-    let Some(Token::Word(word)) = tokens.get(1) else {
-        return None;
-    };
-    let Some(Token::Word(count)) = tokens.get(2) else {
+    let [Token::Open, Token::Word(word), Token::Word(count), ..] = tokens else {
         return None;
     };
     if word.as_slice() != b"postfix".as_slice() {
         return None;
     }
-    let count = size(count.as_slice())?;
-    if count > MOST_PARAMETERS {
-        return None;
-    }
-    Some(count as u8)
+    let count = u8::try_from(size(count.as_slice())?).ok()?;
+    (count <= MOST_PARAMETERS).then_some(count)
 }
 
 // What stands between the first three tokens and the last bracket.
-fn body(heap: Global, tokens: &[Token]) -> Result<Vec<Piece>, Stop> {
+fn body(heap: Global, tokens: &[Token]) -> Result<Vec<Piece>, Stop<Objection>> {
     let mut pieces = Vec::new(heap);
     let mut depth = 1usize;
     let mut commands = 0usize;
@@ -158,17 +129,15 @@ fn body(heap: Global, tokens: &[Token]) -> Result<Vec<Piece>, Stop> {
         if depth == 0 {
             return Err(Objection::Unbalanced.into());
         }
-        let piece = piece_of(token)?;
-        match piece {
-            Piece::Numeral(_) | Piece::Word(_) => commands = commands.saturating_add(1),
-            Piece::Open => {
-                commands = commands.saturating_add(1);
-                depth = depth.saturating_add(1);
-            }
-            Piece::Close => depth -= 1,
-        }
+        let piece = Piece::try_from(token)?;
+        commands = commands.saturating_add(usize::from(piece.is_command()));
         if commands > MOST_COMMANDS {
             return Err(Objection::TooMany.into());
+        }
+        match piece {
+            Piece::Open => depth = depth.saturating_add(1),
+            Piece::Close => depth -= 1,
+            Piece::Numeral(_) | Piece::Word(_) => {}
         }
         if depth > 0 {
             pieces.push(piece)?;
@@ -181,32 +150,34 @@ fn body(heap: Global, tokens: &[Token]) -> Result<Vec<Piece>, Stop> {
 }
 
 // What a token is inside a program.
-fn piece_of(token: &Token) -> Result<Piece, Objection> {
-    let letters = match token {
-        Token::Open => return Ok(Piece::Open),
-        Token::Close => return Ok(Piece::Close),
-        Token::Word(letters) => letters.as_slice(),
-    };
-    match Word::spelled(letters) {
-        Some(word) => Ok(Piece::Word(word)),
-        None => Ok(Piece::Numeral(numeral(letters)?)),
+impl TryFrom<&Token> for Piece {
+    type Error = Objection;
+
+    fn try_from(token: &Token) -> Result<Piece, Objection> {
+        let letters = match token {
+            Token::Open => return Ok(Piece::Open),
+            Token::Close => return Ok(Piece::Close),
+            Token::Word(letters) => letters.as_slice(),
+        };
+        match Word::spelled(letters) {
+            Some(word) => Ok(Piece::Word(word)),
+            None => Ok(Piece::Numeral(numeral(letters)?)),
+        }
     }
 }
 
 // The number that a word of digits stands for, perhaps behind a minus.
 fn numeral(letters: &[u8]) -> Result<i64, Objection> {
-    if let [b'-', digits @ ..] = letters {
-        return match size(digits) {
-            Some(n) if n <= LARGEST + 1 => Ok(-(n as i64)),
-            Some(_) => Err(Objection::OutOfRange),
-            None => Err(Objection::NoSuchWord),
-        };
+    let (digits, is_negative) = match letters {
+        [b'-', digits @ ..] => (digits, true),
+        digits => (digits, false),
+    };
+    let size = size(digits).ok_or(Objection::NoSuchWord)?;
+    if size > LARGEST + u64::from(is_negative) {
+        return Err(Objection::OutOfRange);
     }
-    match size(letters) {
-        Some(n) if n <= LARGEST => Ok(n as i64),
-        Some(_) => Err(Objection::OutOfRange),
-        None => Err(Objection::NoSuchWord),
-    }
+    let number = size as i64;
+    Ok(if is_negative { -number } else { number })
 }
 
 // The number that some digits stand for, or the largest of 64 bits where it is larger; none where these are no digits.
@@ -214,14 +185,8 @@ fn size(digits: &[u8]) -> Option<u64> {
     if digits.is_empty() {
         return None;
     }
-    let mut total = 0u64;
-    for digit in digits {
-        let b'0'..=b'9' = *digit else {
-            return None;
-        };
-        total = total
-            .saturating_mul(10)
-            .saturating_add(u64::from(*digit - b'0'));
-    }
-    Some(total)
+    digits.iter().try_fold(0u64, |total, digit| {
+        let digit = char::from(*digit).to_digit(10)?;
+        Some(total.saturating_mul(10).saturating_add(u64::from(digit)))
+    })
 }

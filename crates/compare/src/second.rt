@@ -1,61 +1,38 @@
 // The second interpreter. It takes an owned tree apart as it goes, and calls itself for the rest of a chain and for the chain
 // of a group.
-use crate::answer::{Answer, Ending};
+use crate::answer::{Answer, FaultNumber};
 use crate::pair::Pair;
-use crate::tree::{Code, Word};
-use crate::trouble::Trouble;
-use std::alloc::{AllocFailed, Global};
+use crate::tree::{Code, Source, Word, grow};
+use crate::trouble::{Stop, Trouble, answer_of};
+use std::alloc::Global;
 
 // One more than the commands of a program: no call is nested deeper.
 const DEPTH: u16 = 256;
 
-// What a run stops at.
+// What a run stops at, and the number of the fault.
 #[derive(Clone, Copy)]
 enum Trap {
-    WrongCount,
-    TooFew,
-    NotNumber,
-    NotGroup,
-    ZeroDivisor,
-    NoSuchPlace,
-    NothingLeft,
-    GroupLeft,
+    WrongCount = 11,
+    TooFew = 12,
+    NotNumber = 13,
+    NotGroup = 14,
+    ZeroDivisor = 15,
+    NoSuchPlace = 16,
+    NothingLeft = 17,
+    GroupLeft = 18,
 }
 
-impl Trap {
-    // The number of the fault.
-    fn number(self) -> u8 {
-        match self {
-            Trap::GroupLeft => 18,
-            Trap::NothingLeft => 17,
-            Trap::NoSuchPlace => 16,
-            Trap::ZeroDivisor => 15,
-            Trap::NotGroup => 14,
-            Trap::NotNumber => 13,
-            Trap::TooFew => 12,
-            Trap::WrongCount => 11,
-        }
+// The number that stands beside the fault.
+impl From<Trap> for FaultNumber {
+    fn from(trap: Trap) -> FaultNumber {
+        FaultNumber(trap as u8)
     }
-}
-
-// Why a run does not go on: a fault of the program, or no answer at all.
-#[derive(Clone, Copy)]
-enum Stop {
-    Trap(Trap),
-    Trouble(Trouble),
 }
 
 // A fault stops the run.
-impl From<Trap> for Stop {
-    fn from(trap: Trap) -> Stop {
-        Stop::Trap(trap)
-    }
-}
-
-// So does a value for which there is no memory.
-impl<T: Drop> From<AllocFailed<T>> for Stop {
-    fn from(_e: AllocFailed<T>) -> Stop {
-        Stop::Trouble(Trouble::Memory)
+impl From<Trap> for Stop<Trap> {
+    fn from(trap: Trap) -> Stop<Trap> {
+        Stop::Said(trap)
     }
 }
 
@@ -66,6 +43,16 @@ enum Held {
     Group(Code),
 }
 
+impl Held {
+    // The number that the value is.
+    fn number(&self) -> Result<i64, Trap> {
+        match self {
+            Held::Number(n) => Ok(*n),
+            Held::Group(_) => Err(Trap::NotNumber),
+        }
+    }
+}
+
 // A run: its values, the top last, and the commands begun so far.
 #[derive(Drop)]
 struct Execution {
@@ -73,37 +60,33 @@ struct Execution {
     steps: u32,
 }
 
-// Runs a program of so many parameters on some arguments.
+// Runs a program on some arguments.
 pub(crate) fn second_answer(
     heap: Global,
-    parameters: u8,
-    code: Code,
+    source: &Source,
     arguments: &[i32],
 ) -> Result<Answer, Trouble> {
+    let code = grow(heap, source.pieces.as_slice())?;
     let mut execution = Execution {
         values: Vec::new(heap),
         steps: 0,
     };
-    let ending = match execution.whole(parameters, code, arguments) {
-        Ok(number) => Ending::Number(number),
-        Err(Stop::Trap(trap)) => Ending::Fault(trap.number()),
-        Err(Stop::Trouble(trouble)) => return Err(trouble),
-    };
+    let end = execution.whole(source.parameters, code, arguments);
     Ok(Answer {
-        ending,
+        ending: answer_of(end)?.map_err(FaultNumber::from),
         steps: execution.steps,
     })
 }
 
 impl Execution {
     // The arguments, the commands, and the number that is left on top.
-    fn whole(&mut self, parameters: u8, code: Code, arguments: &[i32]) -> Result<i64, Stop> {
+    fn whole(&mut self, parameters: u8, code: Code, arguments: &[i32]) -> Result<i64, Stop<Trap>> {
         if usize::from(parameters) != arguments.len() {
             return Err(Trap::WrongCount.into());
         }
-        for argument in arguments.iter().rev() {
-            self.values.push(Held::Number(i64::from(*argument)))?;
-        }
+        let values = arguments.iter().rev();
+        self.values
+            .extend(values.map(|n| Held::Number(i64::from(*n))))?;
         self.obey(code, DEPTH)?;
         match self.values.pop() {
             Some(Held::Number(n)) => Ok(n),
@@ -113,9 +96,9 @@ impl Execution {
     }
 
     // Obeys the commands of a chain, the first here and the others by calling itself.
-    fn obey(&mut self, code: Code, depth: u16) -> Result<(), Stop> {
+    fn obey(&mut self, code: Code, depth: u16) -> Result<(), Stop<Trap>> {
         if depth == 0 {
-            return Err(Stop::Trouble(Trouble::Depth));
+            return Err(Trouble::Depth.into());
         }
         let rest = match code {
             Code::End => return Ok(()),
@@ -146,7 +129,7 @@ impl Execution {
     }
 
     // Does what a name says, and gives the group that has to be obeyed next, if there is one.
-    fn perform(&mut self, word: Word) -> Result<Option<Code>, Stop> {
+    fn perform(&mut self, word: Word) -> Result<Option<Code>, Stop<Trap>> {
         let value = match word {
             Word::Exec => return Ok(Some(self.take_group()?)),
             Word::Pop => {
@@ -176,10 +159,7 @@ impl Execution {
 
     // The top value, which goes.
     fn take(&mut self) -> Result<Held, Trap> {
-        match self.values.pop() {
-            Some(value) => Ok(value),
-            None => Err(Trap::TooFew),
-        }
+        self.values.pop().ok_or(Trap::TooFew)
     }
 
     // The group on top, which goes.
@@ -194,25 +174,16 @@ impl Execution {
     fn choose(&mut self) -> Result<Held, Trap> {
         let upper = self.take()?;
         let lower = self.take()?;
-        let test = self.take()?;
-        if number_in(test)? == 0 {
-            Ok(upper)
-        } else {
-            Ok(lower)
-        }
+        let test = self.take()?.number()?;
+        Ok(if test == 0 { upper } else { lower })
     }
 
     // The number that stands so far below the top as the number on top says.
     fn look_up(&mut self) -> Result<i64, Trap> {
-        let index = number_in(self.take()?)?;
-        let Ok(below) = usize::try_from(index.saturating_sub(1)) else {
-            return Err(Trap::NoSuchPlace);
-        };
-        match self.values.iter().rev().nth(below) {
-            Some(Held::Number(n)) => Ok(*n),
-            Some(Held::Group(_)) => Err(Trap::NotNumber),
-            None => Err(Trap::NoSuchPlace),
-        }
+        let index = self.take()?.number()?;
+        let below = usize::try_from(index.saturating_sub(1)).map_err(|_| Trap::NoSuchPlace)?;
+        let value = self.values.iter().rev().nth(below);
+        value.ok_or(Trap::NoSuchPlace)?.number()
     }
 
     // The two numbers on top, which go; the upper is the right side.
@@ -220,16 +191,8 @@ impl Execution {
         let top = self.take()?;
         let under = self.take()?;
         Ok(Pair {
-            right: number_in(top)?,
-            left: number_in(under)?,
+            right: top.number()?,
+            left: under.number()?,
         })
-    }
-}
-
-// The number that a value is.
-fn number_in(value: Held) -> Result<i64, Trap> {
-    match value {
-        Held::Number(n) => Ok(n),
-        Held::Group(_) => Err(Trap::NotNumber),
     }
 }

@@ -1,12 +1,16 @@
 // Texts from programs: tokens, and tokens put together with little or much between them.
 use crate::dice::Dice;
+use crate::generate::Generator;
 use crate::reading::Token;
-use crate::tree::{Piece, Source};
-use crate::trouble::Trouble;
-use std::alloc::Global;
+use crate::tree::{MOST_BYTES, Piece, Source};
+use std::alloc::AllocError;
+use std::iter;
 
 // What may stand between tokens.
 const WHITE: [u8; 4] = [b' ', b'\t', b'\n', b'\r'];
+
+// What may stand in front of a number.
+const ZEROS: [&str; 4] = ["", "0", "00", "000"];
 
 // How far apart tokens stand.
 #[derive(Clone, Copy)]
@@ -22,116 +26,103 @@ pub(crate) enum Spacing {
 impl Spacing {
     // Any of the three.
     pub(crate) fn drawn(dice: &mut Dice) -> Spacing {
-        match dice.below(3) {
-            0 => Spacing::Tight,
-            1 => Spacing::Plain,
-            _ => Spacing::Odd,
+        dice.one_of(&[Spacing::Tight, Spacing::Plain, Spacing::Odd])
+    }
+}
+
+impl Generator {
+    // The tokens of a program, with zeros in front of some numbers.
+    pub(crate) fn tokens(&mut self, source: &Source) -> Result<Vec<Token>, AllocError> {
+        let mut tokens = Vec::new(self.heap);
+        tokens.push(Token::Open)?;
+        tokens.push(Token::word(self.heap, b"postfix")?)?;
+        tokens.push(self.digits("", u64::from(source.parameters))?)?;
+        for piece in source.pieces.iter() {
+            tokens.push(self.token(*piece)?)?;
+        }
+        tokens.push(Token::Close)?;
+        Ok(tokens)
+    }
+
+    // The token of a piece.
+    fn token(&mut self, piece: Piece) -> Result<Token, AllocError> {
+        match piece {
+            Piece::Numeral(n) => self.numeral(n),
+            Piece::Word(name) => Token::word(self.heap, name.spelling()),
+            Piece::Open => Ok(Token::Open),
+            Piece::Close => Ok(Token::Close),
         }
     }
-}
 
-// The tokens of a program, with zeros in front of some numbers.
-pub(crate) fn tokens_of(
-    heap: Global,
-    dice: &mut Dice,
-    source: &Source,
-) -> Result<Vec<Token>, Trouble> {
-    let mut tokens = Vec::new(heap);
-    tokens.push(Token::Open)?;
-    tokens.push(word(heap, b"postfix")?)?;
-    let mut count = Vec::new(heap);
-    spell_digits(heap, dice, u64::from(source.parameters), &mut count)?;
-    tokens.push(Token::Word(count))?;
-    for piece in source.pieces.iter() {
-        tokens.push(token_of(heap, dice, *piece)?)?;
-    }
-    tokens.push(Token::Close)?;
-    Ok(tokens)
-}
-
-// A token of these letters.
-pub(crate) fn word(heap: Global, letters: &[u8]) -> Result<Token, Trouble> {
-    Ok(Token::Word(Vec::from_slice(heap, letters)?))
-}
-
-// The token of a piece.
-fn token_of(heap: Global, dice: &mut Dice, piece: Piece) -> Result<Token, Trouble> {
-    match piece {
-        Piece::Numeral(n) => numeral(heap, dice, n),
-        Piece::Word(name) => word(heap, name.spelling()),
-        Piece::Open => Ok(Token::Open),
-        Piece::Close => Ok(Token::Close),
-    }
-}
-
-// A numeral; zero has a minus now and then.
-fn numeral(heap: Global, dice: &mut Dice, n: i64) -> Result<Token, Trouble> {
-    let mut letters = Vec::new(heap);
-    if n < 0 || n == 0 && dice.once_in(8) {
-        letters.push(b'-')?;
-    }
-    spell_digits(heap, dice, n.unsigned_abs(), &mut letters)?;
-    Ok(Token::Word(letters))
-}
-
-// The digits of a number, now and then behind up to three zeros.
-fn spell_digits(
-    heap: Global,
-    dice: &mut Dice,
-    n: u64,
-    letters: &mut Vec<u8>,
-) -> Result<(), Trouble> {
-    if dice.once_in(6) {
-        for _ in 0..dice.below(4) {
-            letters.push(b'0')?;
-        }
-    }
-    let digits = format!(in heap; "{n}")?;
-    letters.extend_from_slice(digits.as_bytes())?;
-    Ok(())
-}
-
-// The text of some tokens.
-pub(crate) fn joined(
-    heap: Global,
-    dice: &mut Dice,
-    tokens: &[Token],
-    spacing: Spacing,
-) -> Result<Vec<u8>, Trouble> {
-    let mut text = Vec::new(heap);
-    let mut behind_word = false;
-    for token in tokens {
-        let is_word = matches!(token, Token::Word(_));
-        put_gap(dice, spacing, behind_word && is_word, &mut text)?;
-        match token {
-            Token::Open => text.push(b'(')?,
-            Token::Close => text.push(b')')?,
-            Token::Word(letters) => text.extend_from_slice(letters.as_slice())?,
-        }
-        behind_word = is_word;
-    }
-    put_gap(dice, spacing, false, &mut text)?;
-    Ok(text)
-}
-
-// What stands in front of a token; at least one byte where it has to separate two words.
-fn put_gap(
-    dice: &mut Dice,
-    spacing: Spacing,
-    needed: bool,
-    text: &mut Vec<u8>,
-) -> Result<(), Trouble> {
-    let len = match spacing {
-        Spacing::Tight => usize::from(needed),
-        Spacing::Plain => 1,
-        Spacing::Odd => dice.below(4).max(usize::from(needed)),
-    };
-    for _ in 0..len {
-        let white = match spacing {
-            Spacing::Tight | Spacing::Plain => b' ',
-            Spacing::Odd => WHITE[dice.below(WHITE.len())],
+    // A numeral; zero has a minus now and then.
+    fn numeral(&mut self, n: i64) -> Result<Token, AllocError> {
+        let minus = if n < 0 || n == 0 && self.dice.once_in(8) {
+            "-"
+        } else {
+            ""
         };
-        text.push(white)?;
+        self.digits(minus, n.unsigned_abs())
     }
-    Ok(())
+
+    // The digits of a number behind a sign, now and then with up to three zeros in between.
+    fn digits(&mut self, sign: &str, n: u64) -> Result<Token, AllocError> {
+        let zeros = if self.dice.once_in(6) {
+            self.dice.one_of(&ZEROS)
+        } else {
+            ""
+        };
+        let letters = format!(in self.heap; "{sign}{zeros}{n}")?;
+        Ok(Token::Word(letters.into_bytes()))
+    }
+
+    // The text of a program, which is not too long: with little between the tokens where it would be.
+    pub(crate) fn program_text(&mut self, tokens: &[Token]) -> Result<Vec<u8>, AllocError> {
+        let text = self.spaced(tokens)?;
+        if text.len() > MOST_BYTES {
+            return self.joined(tokens, Spacing::Tight);
+        }
+        Ok(text)
+    }
+
+    // The text of some tokens, with any spacing.
+    pub(crate) fn spaced(&mut self, tokens: &[Token]) -> Result<Vec<u8>, AllocError> {
+        let spacing = Spacing::drawn(&mut self.dice);
+        self.joined(tokens, spacing)
+    }
+
+    // The text of some tokens.
+    fn joined(&mut self, tokens: &[Token], spacing: Spacing) -> Result<Vec<u8>, AllocError> {
+        let mut text = Vec::new(self.heap);
+        let mut behind_word = false;
+        for token in tokens {
+            let is_word = matches!(token, Token::Word(_));
+            self.put_gap(spacing, behind_word && is_word, &mut text)?;
+            match token {
+                Token::Open => text.push(b'(')?,
+                Token::Close => text.push(b')')?,
+                Token::Word(letters) => text.extend_from_slice(letters.as_slice())?,
+            }
+            behind_word = is_word;
+        }
+        self.put_gap(spacing, false, &mut text)?;
+        Ok(text)
+    }
+
+    // What stands in front of a token; at least one byte where it has to separate two words.
+    fn put_gap(
+        &mut self,
+        spacing: Spacing,
+        needed: bool,
+        text: &mut Vec<u8>,
+    ) -> Result<(), AllocError> {
+        let least = usize::from(needed);
+        match spacing {
+            Spacing::Tight => text.extend(iter::repeat_n(b' ', least)),
+            Spacing::Plain => text.extend(iter::once(b' ')),
+            Spacing::Odd => {
+                let len = self.dice.below(4).max(least);
+                text.extend((0..len).map(|_| self.dice.one_of(&WHITE)))
+            }
+        }
+    }
 }

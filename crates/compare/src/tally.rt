@@ -1,101 +1,98 @@
 // How many of each outcome there were.
-use crate::answer::{Ending, Verdict};
+use crate::answer::{FaultNumber, RefusalNumber, Verdict};
 use std::fmt;
 
 // The first fault.
 const FIRST_FAULT: u8 = 11;
 
+// The first refusal.
+const FIRST_REFUSAL: u8 = 1;
+
+// How often each of N numbers came, which follow one another from FIRST on.
+#[derive(Default, Drop)]
+struct Counts<const FIRST: u8, const N: usize> {
+    counts: [u64; N],
+}
+
+impl<const FIRST: u8, const N: usize> Counts<FIRST, N> {
+    // One more of this number, if it is one of them.
+    fn add(&mut self, number: u8) {
+        if let Some(place) = number.checked_sub(FIRST)
+            && let Some(count) = self.counts.get_mut(usize::from(place))
+        {
+            *count = count.saturating_add(1);
+        }
+    }
+
+    // Whether each of them came.
+    fn is_full(&self) -> bool {
+        !self.counts.contains(&0)
+    }
+}
+
 // Counts.
-#[derive(Drop)]
+#[derive(Default, Drop)]
 pub(crate) struct Tally {
     examples: u64,
     programs: u64,
     commands: u64,
     numbers: u64,
-    // from fault 11 on
-    faults: [u64; 8],
+    faults: Counts<FIRST_FAULT, 8>,
     texts: u64,
     accepted: u64,
-    // from refusal 1 on
-    refusals: [u64; 6],
+    refusals: Counts<FIRST_REFUSAL, 6>,
 }
 
 impl Tally {
-    // Nothing yet.
-    pub(crate) fn new() -> Tally {
-        Tally {
-            examples: 0,
-            programs: 0,
-            commands: 0,
-            numbers: 0,
-            faults: [0; 8],
-            texts: 0,
-            accepted: 0,
-            refusals: [0; 6],
-        }
-    }
-
     // A program of the table.
     pub(crate) fn count_example(&mut self) {
-        self.examples = self.examples.saturating_add(1);
+        add_one(&mut self.examples);
     }
 
     // A program of so many commands, and what came of it.
-    pub(crate) fn count_program(&mut self, commands: u64, verdict: Verdict) {
-        self.programs = self.programs.saturating_add(1);
-        self.commands = self.commands.saturating_add(commands);
-        if let Verdict::Ran(answer) = verdict {
-            match answer.ending {
-                Ending::Number(_) => self.numbers = self.numbers.saturating_add(1),
-                Ending::Fault(number) => count(&mut self.faults, number, FIRST_FAULT),
-            }
+    pub(crate) fn count_program(&mut self, commands: usize, verdict: Verdict) {
+        add_one(&mut self.programs);
+        self.commands = self.commands.saturating_add(commands as u64);
+        match verdict.map(|answer| answer.ending) {
+            Ok(Ok(_)) => add_one(&mut self.numbers),
+            Ok(Err(FaultNumber(number))) => self.faults.add(number),
+            Err(_) => {}
         }
     }
 
     // A damaged text, and what came of it.
     pub(crate) fn count_text(&mut self, verdict: Verdict) {
-        self.texts = self.texts.saturating_add(1);
+        add_one(&mut self.texts);
         match verdict {
-            Verdict::Ran(_) => self.accepted = self.accepted.saturating_add(1),
-            Verdict::Refused(number) => count(&mut self.refusals, number, 1),
+            Ok(_) => add_one(&mut self.accepted),
+            Err(RefusalNumber(number)) => self.refusals.add(number),
         }
     }
 
     // Whether each fault and each refusal came.
     pub(crate) fn is_full(&self) -> bool {
-        !self.faults.contains(&0) && !self.refusals.contains(&0)
+        self.faults.is_full() && self.refusals.is_full()
     }
 }
 
-// One more of this number, where the first place stands for the number `first`.
-fn count(counts: &mut [u64], number: u8, first: u8) {
-    let place = usize::from(number).wrapping_sub(usize::from(first));
-    if place < counts.len() {
-        counts[place] = counts[place].saturating_add(1);
-    }
+// One more.
+fn add_one(count: &mut u64) {
+    *count = count.saturating_add(1);
 }
 
 // A table for people.
 impl fmt::Display for Tally {
     fn fmt<W: fmt::Write>(&self, f: &mut fmt::Formatter<W>) -> fmt::Result {
-        let examples = self.examples;
-        let programs = self.programs;
-        let commands = self.commands;
-        let numbers = self.numbers;
-        writeln!(f, "small programs with known values {examples}")?;
-        writeln!(f, "programs {programs}, commands {commands}")?;
-        writeln!(f, "  number     {numbers:>6}")?;
-        for (i, n) in self.faults.iter().enumerate() {
-            let number = i.saturating_add(usize::from(FIRST_FAULT));
-            writeln!(f, "  fault {number}   {n:>6}")?;
+        writeln!(f, "small programs with known values {}", self.examples)?;
+        writeln!(f, "programs {}, commands {}", self.programs, self.commands)?;
+        writeln!(f, "  number     {:>6}", self.numbers)?;
+        for (number, n) in (FIRST_FAULT..).zip(self.faults.counts.iter()) {
+            writeln!(f, "  {}   {n:>6}", FaultNumber(number))?;
         }
-        let texts = self.texts;
-        let accepted = self.accepted;
-        writeln!(f, "damaged texts {texts}")?;
-        writeln!(f, "  accepted   {accepted:>6}")?;
-        for (i, n) in self.refusals.iter().enumerate() {
-            let number = i.saturating_add(1);
-            writeln!(f, "  refusal {number}  {n:>6}")?;
+        writeln!(f, "damaged texts {}", self.texts)?;
+        writeln!(f, "  accepted   {:>6}", self.accepted)?;
+        for (number, n) in (FIRST_REFUSAL..).zip(self.refusals.counts.iter()) {
+            writeln!(f, "  {}  {n:>6}", RefusalNumber(number))?;
         }
         Ok(())
     }

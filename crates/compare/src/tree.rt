@@ -7,7 +7,7 @@ use std::alloc::Global;
 pub(crate) const MOST_COMMANDS: usize = 255;
 
 // The most parameters of a program.
-pub(crate) const MOST_PARAMETERS: u64 = 8;
+pub(crate) const MOST_PARAMETERS: u8 = 8;
 
 // The most bytes of a text.
 pub(crate) const MOST_BYTES: usize = 4_096;
@@ -69,12 +69,7 @@ impl Word {
 
     // The name that is written so, if one is.
     pub(crate) fn spelled(letters: &[u8]) -> Option<Word> {
-        for word in WORDS {
-            if word.spelling() == letters {
-                return Some(word);
-            }
-        }
-        None
+        WORDS.into_iter().find(|word| word.spelling() == letters)
     }
 }
 
@@ -87,11 +82,26 @@ pub(crate) enum Piece {
     Close,
 }
 
+impl Piece {
+    // Whether a command begins here.
+    pub(crate) fn is_command(&self) -> bool {
+        !matches!(self, Piece::Close)
+    }
+}
+
 // A program as its text says it: the number of parameters, and what stands between that and the last bracket.
 #[derive(Drop)]
 pub(crate) struct Source {
     pub(crate) parameters: u8,
     pub(crate) pieces: Vec<Piece>,
+}
+
+impl Source {
+    // How many commands there are.
+    pub(crate) fn commands(&self) -> usize {
+        let pieces = self.pieces.iter();
+        pieces.filter(|piece| piece.is_command()).count()
+    }
 }
 
 // Commands one after the other: each holds the rest of its chain, and a group holds a chain of its own.
@@ -116,15 +126,14 @@ pub(crate) fn grow(heap: Global, pieces: &[Piece]) -> Result<Code, Trouble> {
                 Code::End
             }
             Piece::Open => {
-                let Some(rest) = chains.pop() else {
-                    return Err(Trouble::Brackets);
-                };
+                let rest = chains.pop().ok_or(Trouble::Brackets)?;
                 Code::Group(Box::new(heap, chain)?, Box::new(heap, rest)?)
             }
         };
     }
-    if !chains.is_empty() {
-        return Err(Trouble::Brackets);
+    if chains.is_empty() {
+        Ok(chain)
+    } else {
+        Err(Trouble::Brackets)
     }
-    Ok(chain)
 }

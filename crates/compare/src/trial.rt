@@ -1,15 +1,10 @@
 // One comparison after the other.
-use crate::answer::{Answer, Verdict};
-use crate::damage::damaged;
-use crate::dice::Dice;
-use crate::examples::{EXAMPLES, Example};
-use crate::generate::{generate, generate_arguments};
-use crate::reading::Token;
-use crate::spelling::{Spacing, joined, tokens_of};
+use crate::answer::{Shown, Verdict};
+use crate::examples::EXAMPLES;
+use crate::generate::Generator;
 use crate::tally::Tally;
-use crate::tree::{MOST_BYTES, Piece};
 use crate::trouble::Trouble;
-use crate::verdicts::{second_verdict, source_verdict, toolkit_verdict};
+use crate::verdicts::Case;
 use std::alloc::{AllocError, Global};
 use std::fmt;
 
@@ -22,6 +17,17 @@ enum Origin {
     Text,
     // the second interpreter, on the tree that was generated
     Tree,
+}
+
+// The word for it, as wide as is asked for.
+impl fmt::Display for Origin {
+    fn fmt<W: fmt::Write>(&self, f: &mut fmt::Formatter<W>) -> fmt::Result {
+        f.pad(match self {
+            Origin::Table => "table",
+            Origin::Text => "second",
+            Origin::Tree => "tree",
+        })
+    }
 }
 
 // A text and arguments of which the toolkit says one thing, and another is said elsewhere.
@@ -50,8 +56,8 @@ impl From<Trouble> for Failure {
 
 // So does want of memory.
 impl From<AllocError> for Failure {
-    fn from(_e: AllocError) -> Failure {
-        Failure::Trouble(Trouble::Memory)
+    fn from(e: AllocError) -> Failure {
+        Failure::Trouble(e.into())
     }
 }
 
@@ -69,46 +75,55 @@ impl fmt::Display for Difference {
         for argument in self.arguments.iter() {
             write!(f, " {argument}")?;
         }
-        let toolkit = self.toolkit;
-        let other = self.other;
-        let origin = match self.origin {
-            Origin::Table => "table",
-            Origin::Text => "second",
-            Origin::Tree => "tree",
-        };
-        write!(f, "\n  toolkit    {toolkit}\n  {origin:<10} {other}")
+        write!(f, "\n  toolkit    {}", Shown(self.toolkit))?;
+        write!(f, "\n  {:<10} {}", self.origin, Shown(self.other))
     }
 }
 
-// Sees whether what the toolkit says is what is said elsewhere.
-fn agree(
+// A text and arguments that the toolkit had, and what it said.
+#[derive(Clone, Copy)]
+struct Trial<'a> {
     heap: Global,
-    text: &[u8],
-    arguments: &[i32],
+    case: Case<'a>,
     toolkit: Verdict,
-    origin: Origin,
-    other: Verdict,
-) -> Result<(), Failure> {
-    if toolkit == other {
-        return Ok(());
+}
+
+impl<'a> Trial<'a> {
+    // Puts a text and arguments to the toolkit.
+    fn new(heap: Global, case: Case<'a>) -> Trial<'a> {
+        Trial {
+            heap,
+            case,
+            toolkit: case.toolkit_verdict(),
+        }
     }
-    Err(Failure::Differs(Difference {
-        text: Vec::from_slice(heap, text)?,
-        arguments: Vec::from_slice(heap, arguments)?,
-        toolkit,
-        other,
-        origin,
-    }))
+
+    // Sees whether what is said elsewhere is what the toolkit says.
+    fn agree(&self, origin: Origin, other: Verdict) -> Result<(), Failure> {
+        if self.toolkit == other {
+            return Ok(());
+        }
+        Err(Failure::Differs(Difference {
+            text: Vec::from_slice(self.heap, self.case.text)?,
+            arguments: Vec::from_slice(self.heap, self.case.arguments)?,
+            toolkit: self.toolkit,
+            other,
+            origin,
+        }))
+    }
+
+    // Sees whether the second side says the same.
+    fn agree_with_second(&self) -> Result<(), Failure> {
+        self.agree(Origin::Text, self.case.second_verdict(self.heap)?)
+    }
 }
 
 // The small programs with known values.
 pub(crate) fn compare_examples(heap: Global, tally: &mut Tally) -> Result<(), Failure> {
-    for Example(text, arguments, ending, steps) in EXAMPLES {
-        let expected = Verdict::Ran(Answer { ending, steps });
-        let toolkit = toolkit_verdict(text, arguments);
-        agree(heap, text, arguments, toolkit, Origin::Table, expected)?;
-        let second = second_verdict(heap, text, arguments)?;
-        agree(heap, text, arguments, toolkit, Origin::Text, second)?;
+    for example in EXAMPLES {
+        let trial = Trial::new(heap, example.case());
+        trial.agree(Origin::Table, example.verdict())?;
+        trial.agree_with_second()?;
         tally.count_example();
     }
     Ok(())
@@ -117,55 +132,30 @@ pub(crate) fn compare_examples(heap: Global, tally: &mut Tally) -> Result<(), Fa
 // A program, and a damaged text of it. The program is run from its text by both sides, and once more from the tree that it
 // was made as.
 pub(crate) fn compare_generated(
-    heap: Global,
-    dice: &mut Dice,
+    generator: &mut Generator,
     tally: &mut Tally,
 ) -> Result<(), Failure> {
-    let source = generate(heap, dice)?;
-    let arguments = generate_arguments(heap, dice, source.parameters)?;
-    let tokens = tokens_of(heap, dice, &source)?;
-    let text = program_text(heap, dice, tokens.as_slice())?;
-    let toolkit = compare_text(heap, text.as_slice(), arguments.as_slice())?;
-    let made = source_verdict(heap, &source, arguments.as_slice())?;
-    agree(
-        heap,
-        text.as_slice(),
-        arguments.as_slice(),
-        toolkit,
-        Origin::Tree,
-        made,
-    )?;
-    tally.count_program(commands_in(source.pieces.as_slice()), toolkit);
-    let wrong = damaged(heap, dice, tokens)?;
-    tally.count_text(compare_text(heap, wrong.as_slice(), arguments.as_slice())?);
+    let heap = generator.heap;
+    let source = generator.program()?;
+    let arguments = generator.arguments(source.parameters)?;
+    let arguments = arguments.as_slice();
+    let tokens = generator.tokens(&source)?;
+    let text = generator.program_text(tokens.as_slice())?;
+    let case = Case {
+        text: text.as_slice(),
+        arguments,
+    };
+    let trial = Trial::new(heap, case);
+    trial.agree_with_second()?;
+    trial.agree(Origin::Tree, case.source_verdict(heap, &source)?)?;
+    tally.count_program(source.commands(), trial.toolkit);
+    let text = generator.damaged(tokens)?;
+    let case = Case {
+        text: text.as_slice(),
+        arguments,
+    };
+    let trial = Trial::new(heap, case);
+    trial.agree_with_second()?;
+    tally.count_text(trial.toolkit);
     Ok(())
-}
-
-// What both sides say of a text.
-fn compare_text(heap: Global, text: &[u8], arguments: &[i32]) -> Result<Verdict, Failure> {
-    let toolkit = toolkit_verdict(text, arguments);
-    let second = second_verdict(heap, text, arguments)?;
-    agree(heap, text, arguments, toolkit, Origin::Text, second)?;
-    Ok(toolkit)
-}
-
-// The text of a program, which is not too long: with little between the tokens where it would be.
-fn program_text(heap: Global, dice: &mut Dice, tokens: &[Token]) -> Result<Vec<u8>, Trouble> {
-    let spacing = Spacing::drawn(dice);
-    let text = joined(heap, dice, tokens, spacing)?;
-    if text.len() > MOST_BYTES {
-        return joined(heap, dice, tokens, Spacing::Tight);
-    }
-    Ok(text)
-}
-
-// How many commands there are.
-fn commands_in(pieces: &[Piece]) -> u64 {
-    let mut commands = 0u64;
-    for piece in pieces {
-        if !matches!(piece, Piece::Close) {
-            commands = commands.saturating_add(1);
-        }
-    }
-    commands
 }

@@ -1,4 +1,4 @@
-// What keeps a comparison from being made at all.
+// What keeps a comparison from being made at all, and what stops a reading or a run.
 use std::alloc::{AllocError, AllocFailed};
 use std::fmt;
 
@@ -30,10 +30,47 @@ impl<T: Drop> From<AllocFailed<T>> for Trouble {
 // A line for people.
 impl fmt::Display for Trouble {
     fn fmt<W: fmt::Write>(&self, f: &mut fmt::Formatter<W>) -> fmt::Result {
-        match self {
-            Trouble::Memory => write!(f, "there is no memory"),
-            Trouble::Brackets => write!(f, "brackets do not match where a tree is made"),
-            Trouble::Depth => write!(f, "calls nest deeper than a program has commands"),
-        }
+        f.write_str(match self {
+            Trouble::Memory => "there is no memory",
+            Trouble::Brackets => "brackets do not match where a tree is made",
+            Trouble::Depth => "calls nest deeper than a program has commands",
+        })
+    }
+}
+
+// Why a reading or a run does not go on: something is said against the text or the program, or there is no answer at all.
+#[derive(Clone, Copy)]
+pub(crate) enum Stop<E> {
+    Said(E),
+    Trouble(Trouble),
+}
+
+// Trouble in a part of it stops the whole.
+impl<E> From<Trouble> for Stop<E> {
+    fn from(trouble: Trouble) -> Stop<E> {
+        Stop::Trouble(trouble)
+    }
+}
+
+// So does want of memory.
+impl<E> From<AllocError> for Stop<E> {
+    fn from(e: AllocError) -> Stop<E> {
+        Stop::Trouble(e.into())
+    }
+}
+
+// So does a value for which there is no memory.
+impl<T: Drop, E> From<AllocFailed<T>> for Stop<E> {
+    fn from(e: AllocFailed<T>) -> Stop<E> {
+        Stop::Trouble(e.into())
+    }
+}
+
+// What came of a reading or a run: a value, or what is said against it; unless there is no answer at all.
+pub(crate) fn answer_of<T, E>(outcome: Result<T, Stop<E>>) -> Result<Result<T, E>, Trouble> {
+    match outcome {
+        Ok(value) => Ok(Ok(value)),
+        Err(Stop::Said(said)) => Ok(Err(said)),
+        Err(Stop::Trouble(trouble)) => Err(trouble),
     }
 }

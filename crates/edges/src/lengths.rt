@@ -1,104 +1,66 @@
 // Texts of many commands and bytes, and lent memory of one place less than is needed.
+use crate::texts::repeated;
 use codes::Refusal;
 use program::Program;
 use reader::read;
-use std::alloc::{AllocError, Global};
 use std::test::Fail;
 use syntax::WORKING_PLACES;
 
-// A head, a word so many times, and an end.
-fn repeated(heap: Global, word: &[u8], times: usize, end: &[u8]) -> Result<Vec<u8>, AllocError> {
-    let mut text = Vec::from_slice(heap, b"(postfix 0 ")?;
-    for _ in 0..times {
-        text.extend_from_slice(word)?;
-    }
-    text.extend_from_slice(end)?;
-    Ok(text)
-}
+// The head of each of the texts.
+const HEAD: &[u8] = b"(postfix 0 ";
 
-fn refusal(text: &[u8], places: &mut [u16]) -> Option<Refusal> {
+// A word so many times, an end, and what is said of the head with them.
+const CROWDS: [(&[u8], usize, &[u8], Result<(), Refusal>); 7] = [
+    (b"1 ", 255, b")", Ok(())),
+    (b"1 ", 256, b")", Err(Refusal::Crowd)),
+    (b"pop ", 255, b"add)", Err(Refusal::Crowd)),
+    (b"1 ", 255, b"())", Err(Refusal::Crowd)),
+    (b"1 ", 255, b"foo)", Err(Refusal::Word)),
+    (b"1 ", 255, b"2147483648)", Err(Refusal::Range)),
+    (b"(", 256, b"", Err(Refusal::Crowd)),
+];
+
+// The same of texts as long as they may be, or longer.
+const LENGTHS: [(&[u8], usize, &[u8], Result<(), Refusal>); 4] = [
+    (b"0", 4084, b")", Ok(())),
+    (b"0", 4085, b")", Err(Refusal::Long)),
+    (b"0", 4070, b"2147483648)", Err(Refusal::Range)),
+    (b" ", 4085, b")", Err(Refusal::Long)),
+];
+
+// Nothing where the text is read, else the refusal.
+fn verdict(text: &[u8], places: &mut [u16]) -> Result<(), Refusal> {
     let mut program = Program::new();
-    match read(text, places, &mut program) {
-        Ok(()) => None,
-        Err(error) => Some(error.refusal),
-    }
+    read(text, places, &mut program).map_err(|error| error.refusal)
 }
 
 #[test]
 fn commands(rt: HostRuntime) -> Result<(), Fail> {
-    let heap = rt.alloc();
     let mut places = [0u16; WORKING_PLACES];
-    assert_eq!(rt;
-        refusal(repeated(heap, b"1 ", 255, b")")?.as_slice(), &mut places),
-        None
-    );
-    assert_eq!(rt;
-        refusal(repeated(heap, b"1 ", 256, b")")?.as_slice(), &mut places),
-        Some(Refusal::Crowd)
-    );
-    assert_eq!(rt;
-        refusal(
-            repeated(heap, b"pop ", 255, b"add)")?.as_slice(),
-            &mut places,
-        ),
-        Some(Refusal::Crowd)
-    );
-    assert_eq!(rt;
-        refusal(repeated(heap, b"1 ", 255, b"())")?.as_slice(), &mut places),
-        Some(Refusal::Crowd)
-    );
-    assert_eq!(rt;
-        refusal(repeated(heap, b"1 ", 255, b"foo)")?.as_slice(), &mut places),
-        Some(Refusal::Word)
-    );
-    assert_eq!(rt;
-        refusal(
-            repeated(heap, b"1 ", 255, b"2147483648)")?.as_slice(),
-            &mut places,
-        ),
-        Some(Refusal::Range)
-    );
-    assert_eq!(rt;
-        refusal(repeated(heap, b"(", 256, b"")?.as_slice(), &mut places),
-        Some(Refusal::Crowd)
-    );
+    for (word, times, end, expected) in CROWDS {
+        let text = repeated(rt.alloc(), &[(HEAD, 1), (word, times), (end, 1)])?;
+        assert_eq!(rt; verdict(text.as_slice(), &mut places), expected);
+    }
     Ok(())
 }
 
 #[test]
 fn depth(rt: HostRuntime) -> Result<(), Fail> {
-    let heap = rt.alloc();
     let mut places = [0u16; WORKING_PLACES];
-    let mut text = repeated(heap, b"(", 255, b"")?;
-    for _ in 0..256usize {
-        text.push(b')')?;
-    }
-    assert_eq!(rt; refusal(text.as_slice(), &mut places), None);
+    let text = repeated(rt.alloc(), &[(HEAD, 1), (b"(", 255), (b")", 256)])?;
+    assert_eq!(rt; verdict(text.as_slice(), &mut places), Ok(()));
     Ok(())
 }
 
 #[test]
 fn bytes(rt: HostRuntime) -> Result<(), Fail> {
-    let heap = rt.alloc();
     let mut places = [0u16; WORKING_PLACES];
-    let longest = repeated(heap, b"0", 4084, b")")?;
+    let longest = repeated(rt.alloc(), &[(HEAD, 1), (b"0", 4084), (b")", 1)])?;
     assert_eq!(rt; longest.len(), 4096);
-    assert_eq!(rt; refusal(longest.as_slice(), &mut places), None);
-    assert_eq!(rt;
-        refusal(repeated(heap, b"0", 4085, b")")?.as_slice(), &mut places),
-        Some(Refusal::Long)
-    );
-    assert_eq!(rt;
-        refusal(
-            repeated(heap, b"0", 4070, b"2147483648)")?.as_slice(),
-            &mut places,
-        ),
-        Some(Refusal::Range)
-    );
-    assert_eq!(rt;
-        refusal(repeated(heap, b" ", 4085, b")")?.as_slice(), &mut places),
-        Some(Refusal::Long)
-    );
+    for (word, times, end, expected) in LENGTHS {
+        let text = repeated(rt.alloc(), &[(HEAD, 1), (word, times), (end, 1)])?;
+        assert_eq!(rt; verdict(text.as_slice(), &mut places), expected);
+    }
     Ok(())
 }
 
@@ -106,9 +68,9 @@ fn bytes(rt: HostRuntime) -> Result<(), Fail> {
 fn memory(rt: HostRuntime) {
     let mut enough = [0u16; 264];
     let mut short = [0u16; 263];
-    assert_eq!(rt; refusal(b"(postfix 0)", &mut enough), None);
-    assert_eq!(rt; refusal(b"(postfix 0)", &mut short), Some(Refusal::Space));
-    assert_eq!(rt; refusal(b"foo", &mut short), Some(Refusal::Space));
+    assert_eq!(rt; verdict(b"(postfix 0)", &mut enough), Ok(()));
+    assert_eq!(rt; verdict(b"(postfix 0)", &mut short), Err(Refusal::Space));
+    assert_eq!(rt; verdict(b"foo", &mut short), Err(Refusal::Space));
 }
 
 #[test]

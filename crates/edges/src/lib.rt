@@ -9,3 +9,5 @@ mod prints;
 mod runs;
 #[cfg(test)]
 mod tables;
+#[cfg(test)]
+mod texts;

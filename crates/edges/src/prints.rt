@@ -3,8 +3,6 @@ use codes::Refusal;
 use printer::print;
 use program::Program;
 use reader::read;
-use std::process::Abort;
-use std::test::Fail;
 use syntax::WORKING_PLACES;
 
 const ROOM: usize = 64;
@@ -13,44 +11,36 @@ const ROOM: usize = 64;
 fn printed(text: &[u8], places: &mut [u16], out: &mut [u8]) -> Result<usize, Refusal> {
     let mut brackets = [0u16; WORKING_PLACES];
     let mut program = Program::new();
-    match read(text, &mut brackets, &mut program) {
-        Ok(()) => print(&program, places, out),
-        Err(error) => Err(error.refusal),
-    }
+    read(text, &mut brackets, &mut program).map_err(|error| error.refusal)?;
+    print(&program, places, out)
 }
 
-// Whether the text is printed as it should be, with what stood behind it left alone.
-fn prints(rt: &impl Abort, text: &[u8], standard: &[u8]) -> Result<(), Fail> {
-    let mut places = [0u16; WORKING_PLACES];
-    let mut out = [7u8; ROOM];
-    assert_eq!(rt; printed(text, &mut places, &mut out), Ok(standard.len()));
-    let all: &[u8] = &out;
-    assert!(rt; all.starts_with(standard));
-    let Some(behind) = all.get(standard.len()..ROOM) else {
-        return Err(Fail::new("too long"));
-    };
-    for b in behind {
-        assert_eq!(rt; *b, 7);
-    }
-    Ok(())
-}
-
-#[test]
-fn standard_forms(rt: HostRuntime) -> Result<(), Fail> {
-    prints(&rt, b"(postfix 0)", b"(postfix 0)")?;
-    prints(
-        &rt,
+// Texts, and what is printed of their programs.
+const FORMS: [(&[u8], &[u8]); 6] = [
+    (b"(postfix 0)", b"(postfix 0)"),
+    (
         b" ( postfix 02 1 -007 add(swap () exec))",
         b"(postfix 2 1 -7 add (swap () exec))",
-    )?;
-    prints(
-        &rt,
+    ),
+    (
         b"(postfix 0 -0 -2147483648 2147483647)",
         b"(postfix 0 0 -2147483648 2147483647)",
-    )?;
-    prints(&rt, b"(postfix 8()())", b"(postfix 8 () ())")?;
-    prints(&rt, b"(postfix 1(((1))))", b"(postfix 1 (((1))))")?;
-    prints(&rt, b"(postfix 0\n000\n10 100)", b"(postfix 0 0 10 100)")
+    ),
+    (b"(postfix 8()())", b"(postfix 8 () ())"),
+    (b"(postfix 1(((1))))", b"(postfix 1 (((1))))"),
+    (b"(postfix 0\n000\n10 100)", b"(postfix 0 0 10 100)"),
+];
+
+#[test]
+fn standard_forms(rt: HostRuntime) {
+    for (text, standard) in FORMS {
+        let mut places = [0u16; WORKING_PLACES];
+        let mut out = [7u8; ROOM];
+        assert_eq!(rt; printed(text, &mut places, &mut out), Ok(standard.len()));
+        let all: &[u8] = &out;
+        let behind = all.strip_prefix(standard);
+        assert!(rt; behind.is_some_and(|behind| behind.iter().all(|b| *b == 7)));
+    }
 }
 
 #[test]
