@@ -1,5 +1,5 @@
 // What each side says of a text: the toolkit, and the second reader and interpreter.
-use crate::answer::{Answer, Ending, FaultNumber, RefusalNumber, Verdict};
+use crate::answer::{Answer, FaultNumber, RefusalNumber, Verdict};
 use crate::reading::second_reading;
 use crate::second::second_answer;
 use crate::tree::Source;
@@ -8,7 +8,7 @@ use codes::{Fault, Refusal};
 use interpreter::run;
 use program::Program;
 use reader::read;
-use semantics::{Outcome, Value};
+use semantics::Value;
 use std::alloc::Global;
 use syntax::WORKING_PLACES;
 
@@ -42,7 +42,7 @@ impl Case<'_> {
         let mut values = [Value::Sequence(1u16); WORKING_PLACES];
         let result = run(&program, self.arguments, &mut values, &mut places)?;
         Ok(Answer {
-            ending: ending_of(result.outcome),
+            ending: result.outcome.map(i64::from).map_err(FaultNumber::from),
             steps: result.spent.steps,
         })
     }
@@ -58,13 +58,5 @@ impl Case<'_> {
     // What the second interpreter says of a program on the arguments.
     pub(crate) fn source_verdict(self, heap: Global, source: &Source) -> Result<Verdict, Trouble> {
         Ok(Ok(second_answer(heap, source, self.arguments)?))
-    }
-}
-
-// How the toolkit's run ended.
-fn ending_of(outcome: Outcome) -> Ending {
-    match outcome {
-        Outcome::Number(number) => Ok(i64::from(number)),
-        Outcome::Fault(fault) => Err(fault.into()),
     }
 }

@@ -4,7 +4,7 @@ use codes::{Fault, Refusal};
 use interpreter::run;
 use program::Program;
 use reader::read;
-use semantics::{Outcome, Run, Spent, Value};
+use semantics::{Run, Spent, Value};
 use std::test::Fail;
 use syntax::WORKING_PLACES;
 
@@ -31,7 +31,7 @@ fn ran(text: &[u8], arguments: &[i32]) -> Result<Run, Refusal> {
 // A run that comes to a number in so many steps.
 fn gives(number: i32, steps: u32) -> Result<Run, Refusal> {
     Ok(Run {
-        outcome: Outcome::Number(number),
+        outcome: Ok(number),
         spent: Spent { steps },
     })
 }
@@ -39,7 +39,7 @@ fn gives(number: i32, steps: u32) -> Result<Run, Refusal> {
 // A run that comes to a fault in so many steps.
 fn faults(fault: Fault, steps: u32) -> Result<Run, Refusal> {
     Ok(Run {
-        outcome: Outcome::Fault(fault),
+        outcome: Err(fault),
         spent: Spent { steps },
     })
 }
