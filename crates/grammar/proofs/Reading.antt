@@ -58,25 +58,6 @@ fed-none o h = ap fed h
 
 -- the first three tokens
 
-pub program-at-postfix : (w : List ℕ) (ts : List Token) → w ≡ postfix → program (opening ∷ word w ∷ ts) ≡ third ts
-program-at-postfix w ts h = cond-true (bytes_eq w postfix) (third ts) (refused Head (word w ∷ ts)) ((bytes_eq-Decides w postfix).1 h)
-
-pub program_at_other : (w : List ℕ) (ts : List Token) → (w ≡ postfix → ⊥) → program (opening ∷ word w ∷ ts) ≡ refused Head (word w ∷ ts)
-program_at_other w ts h =
-    cond_both (bytes_eq w postfix) (third ts) (refused Head (word w ∷ ts)) (λ x. x ≡ refused Head (word w ∷ ts))
-    (λ t. absurd (h ((bytes_eq-Decides w postfix).0 t)))
-    (λ t. refl)
-
-pub counted_few : (w : List ℕ) (ts : List Token) → digital w ≡ true → digits_value 10 w ≤ most_parameters → counted w ts ≡ body (digits_value 10 w) ts blank
-counted_few w ts d l =
-    cond-true _ (body (digits_value 10 w) ts blank) (refused Head (word w ∷ ts)) (and_from (digital w) _ d (le-leb (digits_value 10 w) most_parameters l))
-
-pub counted_many : (w : List ℕ) (ts : List Token) → digital w ≡ true → most_parameters < digits_value 10 w → counted w ts ≡ refused Head (word w ∷ ts)
-counted_many w ts d l = rw (d, lt-leb (digits_value 10 w) most_parameters l) refl
-
-pub counted_other : (w : List ℕ) (ts : List Token) → digital w ≡ false → counted w ts ≡ refused Head (word w ∷ ts)
-counted_other w ts d = rw d refl
-
 -- a text
 
 pub parse_short : (t : List ℕ) → length t ≤ most_bytes → parse t ≡ program (tokens t)

@@ -60,22 +60,6 @@ none_named w (o ∷ os) h =
     (λ e. absurd (h o ((bytes_eq-Decides w (name_word o)).0 e)))
     (λ e. none_named w os h)
 
-all_named : (o : Name) → name_of (name_word o) ≡ command o
-unfolding name_of
-all_named (operator Add) = refl
-all_named (operator Div) = refl
-all_named (operator Eq) = refl
-all_named (operator Gt) = refl
-all_named (operator Lt) = refl
-all_named (operator Mul) = refl
-all_named (operator Rem) = refl
-all_named (operator Sub) = refl
-all_named Exec = refl
-all_named Nget = refl
-all_named Pop = refl
-all_named Sel = refl
-all_named Swap = refl
-
 -- what a word means, by its form
 
 digital-head : (c : ℕ) (cs : List ℕ) → digital (c ∷ cs) ≡ true → eqb c 45 ≡ false
@@ -86,11 +70,6 @@ digital-head c cs d =
 pub meaning-digits : (w : List ℕ) → digital w ≡ true → meaning w ≡ ranged (pos (digits_value 10 w))
 meaning-digits [] d = let z : ◌≡◌ {A = ℕ} 0 1 = cc in absurd (omega arith)
 meaning-digits (c ∷ cs) d = rw (digital-head c cs d, d) refl
-
--- a minus, and digits or not
-pub meaning-minus : (w : List ℕ) → 0 < length w → get_or w 0 0 ≡ 45 → meaning w ≡ minused (drop 1 w)
-meaning-minus [] l h = absurd (omega arith)
-meaning-minus (c ∷ cs) l h = ap (λ k. meaning (k ∷ cs)) h
 
 pub ranged-number : (z : ℤ) → in_range z ≡ true → ranged z ≡ number z
 ranged-number z h = cond-true (in_range z) (number z) huge h
