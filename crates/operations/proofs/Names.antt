@@ -1,9 +1,9 @@
 -- What names come to on a stack that was looked at.
-use Rattle.std.proofs.Common.{◌≡◌, ℕ, ◌<◌, Bool, eqb, List, ◌∷◌, length, ℤ, pos, negsuc, nat_abs, Some, None, Ok, sym, ap, ◌∙◌, arith}
+use Rattle.std.proofs.Common.{◌≡◌, ℕ, ◌<◌, Bool, eqb, List, ◌∷◌, length, ℤ, pos, negsuc, nat_abs, Some, None, Ok, sym, ap, ◌∙◌, arith, slice_get}
 use Rattle.std.proofs.lemmas.Bool.{cond-true, cond-false, eq-eqb, ne_eqb}
 use Rattle.stack.specs.declared.Stack.{Stack}
 use Rattle.stack.specs.Held.{held, room}
-use Rattle.stack.specs.Items.{nth, tail_of}
+use Rattle.stack.specs.Items.{tail_of}
 use Rattle.syntax.specs.declared.Operator.{Operator}
 use Rattle.syntax.specs.declared.Name.{Name}
 use Rattle.syntax.specs.declared.Name.TheVariants.{Operator as operator, Nget, Sel, Swap}
@@ -31,14 +31,14 @@ zero_of (pos n) e = ap pos e
 zero_of (negsuc n) e = let z : ⊥ = omega arith in absurd z
 
 -- an operator on two numerals
-pub operated : (o : Operator) (xs : List (Value ℕ)) (v w : Value ℕ) (a b k : ℤ) → nth xs 0 ≡ Some v → nth xs 1 ≡ Some w → number_in v ≡ Ok b → number_in w ≡ Ok a → compute o a b ≡ Ok k → act (operator o) xs ≡ next (Numeral k ∷ tail_of (tail_of xs))
+pub operated : (o : Operator) (xs : List (Value ℕ)) (v w : Value ℕ) (a b k : ℤ) → slice_get xs 0 ≡ Some v → slice_get xs 1 ≡ Some w → number_in v ≡ Ok b → number_in w ≡ Ok a → compute o a b ≡ Ok k → act (operator o) xs ≡ next (Numeral k ∷ tail_of (tail_of xs))
 operated o xs v w a b k first second right left e =
     ap (act (operator o)) (two_of xs v w first second)
     ∙ (λ i. operate o (numeral_of v b right i) (numeral_of w a left i) (tail_of (tail_of xs)))
     ∙ ap (λ r. settle r (tail_of (tail_of xs))) e
 
 -- two values that change places
-pub swapped : (xs : List (Value ℕ)) (v w : Value ℕ) → nth xs 0 ≡ Some v → nth xs 1 ≡ Some w → act Swap xs ≡ next (w ∷ v ∷ tail_of (tail_of xs))
+pub swapped : (xs : List (Value ℕ)) (v w : Value ℕ) → slice_get xs 0 ≡ Some v → slice_get xs 1 ≡ Some w → act Swap xs ≡ next (w ∷ v ∷ tail_of (tail_of xs))
 swapped xs v w first second = ap (act Swap) (two_of xs v w first second)
 
 -- the third value is 0
@@ -50,11 +50,11 @@ pub chosen_second : (k : ℤ) (v w : Value ℕ) → (k ≡ pos 0 → ⊥) → ch
 chosen_second k v w n = cond-false (eqb (nat_abs k) 0) v w (ne_eqb (nat_abs k) 0 (λ e. n (zero_of k e)))
 
 -- three values, the third a numeral
-pub selected : (xs : List (Value ℕ)) (v w x : Value ℕ) (k : ℤ) → nth xs 0 ≡ Some v → nth xs 1 ≡ Some w → nth xs 2 ≡ Some x → number_in x ≡ Ok k → act Sel xs ≡ next (chosen k v w ∷ tail_of (tail_of (tail_of xs)))
+pub selected : (xs : List (Value ℕ)) (v w x : Value ℕ) (k : ℤ) → slice_get xs 0 ≡ Some v → slice_get xs 1 ≡ Some w → slice_get xs 2 ≡ Some x → number_in x ≡ Ok k → act Sel xs ≡ next (chosen k v w ∷ tail_of (tail_of (tail_of xs)))
 selected xs v w x k first second third condition =
     ap (act Sel) (three_of xs v w x first second third) ∙ ap (λ y. select v w y (tail_of (tail_of (tail_of xs)))) (numeral_of x k condition)
 
 -- an index that counts to a numeral
-pub copied : (xs : List (Value ℕ)) (v w : Value ℕ) (i k : ℤ) → nth xs 0 ≡ Some v → number_in v ≡ Ok i → counted (tail_of xs) i ≡ Some w → number_in w ≡ Ok k → act Nget xs ≡ next (Numeral k ∷ tail_of xs)
+pub copied : (xs : List (Value ℕ)) (v w : Value ℕ) (i k : ℤ) → slice_get xs 0 ≡ Some v → number_in v ≡ Ok i → counted (tail_of xs) i ≡ Some w → number_in w ≡ Ok k → act Nget xs ≡ next (Numeral k ∷ tail_of xs)
 copied xs v w i k first index found number =
     ap (act Nget) (one_of xs v first) ∙ ap (λ y. fetch y (tail_of xs)) (numeral_of v i index) ∙ ap (λ y. copy y (tail_of xs)) (found ∙ ap Some (numeral_of w k number))

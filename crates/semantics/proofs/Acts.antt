@@ -1,8 +1,7 @@
 -- A name does the same to stacks that differ only in what stands for their sequences; and what it leaves weighs no more than
 -- what was there.
-use Rattle.std.proofs.Common.{◌≡◌, ℕ, zero, suc, ◌+◌, ◌≤◌, Bool, true, false, cond, eqb, [], ◌∷◌, ℤ, pos, negsuc, nat_abs, Some, None, Ok, Err, Option, Result, refl, arith}
+use Rattle.std.proofs.Common.{◌≡◌, ℕ, zero, suc, ◌+◌, ◌≤◌, Bool, true, false, cond, eqb, [], ◌∷◌, ℤ, pos, negsuc, nat_abs, Some, None, Ok, Err, Option, Result, refl, arith, slice_get}
 use Rattle.codes.specs.declared.Fault.{Fault}
-use Rattle.stack.specs.Items.{nth}
 use Rattle.syntax.specs.declared.Operator.{Operator}
 use Rattle.syntax.specs.declared.Name.{Name}
 use Rattle.syntax.specs.declared.Name.TheVariants.{Operator as operator, Exec, Nget, Pop, Sel, Swap}
@@ -56,7 +55,7 @@ module _ {A B : Type 0} (P : ℤ → Type 0) (R : A → B → Type 0) (ν : ℕ)
   selects n v w x v' w' x' s t a b (numerals {k} p) h l = choice n (eqb (nat_abs k) 0) v w v' w' s t a b h l
   selects n v w x v' w' x' s t a b (sequences q) h l = stops
 
-  finds : {s : Stack A} {t : Stack B} → Alikes P R s t → (i : ℕ) → Found (nth s i) (nth t i)
+  finds : {s : Stack A} {t : Stack B} → Alikes P R s t → (i : ℕ) → Found (slice_get s i) (slice_get t i)
   finds none i = nowhere
   finds (more v h) zero = there v
   finds (more v h) (suc i) = finds h i

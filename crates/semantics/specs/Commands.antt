@@ -1,10 +1,9 @@
 -- What each name does to a stack of values. A sequence is a value of any kind A that stands for its commands: the commands
 -- themselves in the meaning of a program, the place where they are kept in a machine.
-use Rattle.std.specs.Prelude.{zero, suc, Bool, cond, ◌&&◌, List, [], ◌∷◌, ℤ, pos, negsuc, Some, None, Ok, Err, Option, Result, ◌==◌, int_le, int_lt, unsigned_abs}
+use Rattle.std.specs.Prelude.{zero, suc, Bool, cond, ◌&&◌, List, [], ◌∷◌, ℤ, pos, negsuc, Some, None, Ok, Err, Option, Result, ◌==◌, int_le, int_lt, unsigned_abs, slice_get}
 use Rattle.codes.specs.declared.Fault.{Fault}
 use Rattle.codes.specs.declared.Fault.TheVariants.{Underflow, NoNumeral, NoSequence, Index}
 use Rattle.arithmetic.specs.Operations.{sum, difference, product, divided}
-use Rattle.stack.specs.Items.{nth}
 use Rattle.syntax.specs.declared.Operator.{Operator}
 use Rattle.syntax.specs.declared.Operator.TheVariants.{Add, Div, Eq, Gt, Lt, Mul, Rem, Sub}
 use Rattle.syntax.specs.declared.Name.{Name}
@@ -69,7 +68,7 @@ module _ {A : Type 0} where
   -- the value with this number, counted from 1 at the top
   abbrev pub counted : Stack A → ℤ → Option (Value A)
   counted s (pos zero) = None
-  counted s (pos (suc n)) = nth s n
+  counted s (pos (suc n)) = slice_get s n
   counted s (negsuc n) = None
 
   -- a numeral is copied to the top

@@ -1,9 +1,10 @@
 -- The first places of a list, read as a stack, and how many values a stack holds.
-use Rattle.std.proofs.Common.{◌≡◌, ℕ, zero, suc, ◌+◌, ◌-◌, ◌<◌, ◌≤◌, List, [], ◌∷◌, reverse, length, get_or, take, set, Some, None, sym, refl, ap, ◌∙◌, arith}
+use Rattle.std.proofs.Common.{◌≡◌, ℕ, ◌+◌, ◌-◌, ◌<◌, ◌≤◌, List, [], ◌∷◌, reverse, length, get_or, take, set, Some, sym, refl, ap, ◌∙◌, arith, slice_get}
+use Rattle.std.proofs.lemmas.Option.{slice_get-get_or}
 use Rattle.std.proofs.lemmas.List.{take_more, take_more_set, reverse-append, length-reverse, length-take-le, get_or-reverse, get_or-take}
 use Rattle.stack.specs.declared.Stack.{Stack}
 use Rattle.stack.specs.Held.{held, room}
-use Rattle.stack.specs.Items.{items, nth}
+use Rattle.stack.specs.Items.{items}
 
 -- one place more, written before
 pub items-push : {X : Type 0} (xs : List X) (n : ℕ) (x : X) → n < length xs → items (set xs n x) (n + 1) ≡ x ∷ items xs n
@@ -25,25 +26,13 @@ pub length-items : {X : Type 0} (xs : List X) (n : ℕ) → n ≤ length xs → 
 unfolding items
 length-items xs n h = length-reverse (take n xs) ∙ length-take-le n xs h
 
--- what stands at an index within a list
-pub nth-get_or : {X : Type 0} (ys : List X) (k : ℕ) (d : X) → k < length ys → nth ys k ≡ Some (get_or ys k d)
-nth-get_or [] k d h = let z : ⊥ = omega arith in absurd z
-nth-get_or (y ∷ ys) zero d h = refl
-nth-get_or (y ∷ ys) (suc k) d h = nth-get_or ys k d (omega arith)
-
--- past the end of a list stands nothing
-pub nth_past : {X : Type 0} (ys : List X) (k : ℕ) → length ys ≤ k → nth ys k ≡ None
-nth_past [] k h = refl
-nth_past (y ∷ ys) zero h = let z : ⊥ = omega arith in absurd z
-nth_past (y ∷ ys) (suc k) h = nth_past ys k (omega arith)
-
 -- the value k below the top stands k places before the last
-pub nth-items : {X : Type 0} (xs : List X) (n k : ℕ) (d : X) → n ≤ length xs → k < n → nth (items xs n) k ≡ Some (get_or xs (n - 1 - k) d)
+pub slice_get-items : {X : Type 0} (xs : List X) (n k : ℕ) (d : X) → n ≤ length xs → k < n → slice_get (items xs n) k ≡ Some (get_or xs (n - 1 - k) d)
 unfolding items
-nth-items xs n k d h l =
+slice_get-items xs n k d h l =
     let e : length (take n xs) ≡ n = length-take-le n xs h in
     let lt : k < length (take n xs) = omega arith in
-    nth-get_or (reverse (take n xs)) k d (omega (arith, length-reverse (take n xs)))
+    slice_get-get_or (reverse (take n xs)) k d (omega (arith, length-reverse (take n xs)))
     ∙ ap (λ v. Some v) (get_or-reverse (take n xs) k d lt ∙ ap (λ m. get_or (take n xs) (m - 1 - k) d) e ∙ get_or-take n xs (n - 1 - k) d (omega arith))
 
 -- a stack holds as many values as its length says

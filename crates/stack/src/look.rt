@@ -1,7 +1,6 @@
 // What a stack shows of itself.
 ghost use Rattle.stack.specs.Held.{held, room};
-ghost use Rattle.stack.specs.Items.{nth};
-ghost use Rattle.std.specs.Prelude.{◌≡◌, length};
+ghost use Rattle.std.specs.Prelude.{◌≡◌, length, slice_get};
 
 use super::Stack;
 
@@ -22,7 +21,7 @@ impl<'a, T: Copy> Stack<'a, T> {
 
     // The value that stands `depth` below the top, if there is one.
     pub fn get(&self, depth: usize) -> Option<T>
-        ensures { result ≡ nth (held self.now) depth }
+        ensures { result ≡ slice_get (held self.now) depth }
     {
         if depth < self.len {
             let at = self.len - 1 - depth;
