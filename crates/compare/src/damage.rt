@@ -1,6 +1,4 @@
 // Texts with something wrong in them, made from the tokens of a program. Some of them are programs all the same.
-ghost use Rattle.std.specs.Prelude.{◌≤◌, vec_len};
-
 use crate::generate::Generator;
 use crate::reading::Token;
 use crate::tree::{MOST_BYTES, MOST_COMMANDS};
@@ -129,12 +127,11 @@ impl Generator {
     }
 
     // Puts blanks or zeros in at some place, until there are as many bytes as a text may have, or a few less or more.
-    fn lengthen(&mut self, at: usize, text: &mut Vec<u8>) -> Result<(), AllocError>
-        requires { at ≤ vec_len text.old }
-    {
+    fn lengthen(&mut self, at: usize, text: &mut Vec<u8>) -> Result<(), AllocError> {
         let filling = if self.dice.once_in(2) { b' ' } else { b'0' };
         let goal = MOST_BYTES - 3 + self.dice.below(8);
         let added = goal.saturating_sub(text.len());
+        let at = at.min(text.len());
         let _ = text.splice(at..at, iter::repeat_n(filling, added))?;
         Ok(())
     }

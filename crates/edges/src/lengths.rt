@@ -39,7 +39,8 @@ fn commands(rt: HostRuntime) -> Result<(), Fail> {
     let mut places = [0u16; WORKING_PLACES];
     for (word, times, end, expected) in CROWDS {
         let text = repeated(rt.alloc(), &[(HEAD, 1), (word, times), (end, 1)])?;
-        assert_eq!(rt; verdict(text.as_slice(), &mut places), expected);
+        let said = verdict(text.as_slice(), &mut places);
+        assert_eq!(rt; said, expected, "{}, {times} times", word.escape_ascii());
     }
     Ok(())
 }
@@ -59,7 +60,8 @@ fn bytes(rt: HostRuntime) -> Result<(), Fail> {
     assert_eq!(rt; longest.len(), 4096);
     for (word, times, end, expected) in LENGTHS {
         let text = repeated(rt.alloc(), &[(HEAD, 1), (word, times), (end, 1)])?;
-        assert_eq!(rt; verdict(text.as_slice(), &mut places), expected);
+        let said = verdict(text.as_slice(), &mut places);
+        assert_eq!(rt; said, expected, "{}, {times} times", word.escape_ascii());
     }
     Ok(())
 }

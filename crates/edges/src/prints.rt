@@ -36,10 +36,12 @@ fn standard_forms(rt: HostRuntime) {
     for (text, standard) in FORMS {
         let mut places = [0u16; WORKING_PLACES];
         let mut out = [7u8; ROOM];
-        assert_eq!(rt; printed(text, &mut places, &mut out), Ok(standard.len()));
+        let len = printed(text, &mut places, &mut out);
+        assert_eq!(rt; len, Ok(standard.len()), "{}", text.escape_ascii());
         let all: &[u8] = &out;
         let behind = all.strip_prefix(standard);
-        assert!(rt; behind.is_some_and(|behind| behind.iter().all(|b| *b == 7)));
+        let is_printed = behind.is_some_and(|behind| behind.iter().all(|b| *b == 7));
+        assert!(rt; is_printed, "{}", text.escape_ascii());
     }
 }
 

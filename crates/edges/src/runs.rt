@@ -44,138 +44,91 @@ fn faults(fault: Fault, steps: u32) -> Result<Run, Refusal> {
     })
 }
 
+// Texts, arguments, the fault that comes of them, and how many steps it takes.
+const FAULTS: [(&[u8], &[i32], Fault, u32); 20] = [
+    (b"(postfix 1 add)", &[], Fault::Arguments, 0),
+    (b"(postfix 1 (0) div)", &[], Fault::Arguments, 0),
+    (b"(postfix 0 div)", &[], Fault::Underflow, 1),
+    (b"(postfix 0 () div)", &[], Fault::Underflow, 2),
+    (b"(postfix 0 () 0 div)", &[], Fault::NoNumeral, 3),
+    (b"(postfix 0 1 () rem)", &[], Fault::NoNumeral, 3),
+    (b"(postfix 1 0 rem)", &[5], Fault::ZeroDivisor, 2),
+    (b"(postfix 0 nget)", &[], Fault::Underflow, 1),
+    (b"(postfix 0 () nget)", &[], Fault::NoNumeral, 2),
+    (b"(postfix 0 () 2 nget)", &[], Fault::Index, 3),
+    (b"(postfix 0 () 1 nget)", &[], Fault::NoNumeral, 3),
+    (b"(postfix 0 1 nget)", &[], Fault::Index, 2),
+    (b"(postfix 2 0 nget)", &[5, 6], Fault::Index, 2),
+    (b"(postfix 2 -1 nget)", &[5, 6], Fault::Index, 2),
+    (b"(postfix 0 () 1 sel)", &[], Fault::Underflow, 3),
+    (b"(postfix 0 () 1 2 sel)", &[], Fault::NoNumeral, 4),
+    (b"(postfix 0 exec)", &[], Fault::Underflow, 1),
+    (b"(postfix 0 1 exec)", &[], Fault::NoSequence, 2),
+    (b"(postfix 0)", &[], Fault::Empty, 0),
+    (b"(postfix 1 ())", &[3], Fault::SequenceOnTop, 1),
+];
+
 #[test]
 fn faults_come_in_order(rt: HostRuntime) {
-    assert_eq!(rt; ran(b"(postfix 1 add)", &[]), faults(Fault::Arguments, 0));
-    assert_eq!(rt;
-        ran(b"(postfix 1 (0) div)", &[]),
-        faults(Fault::Arguments, 0)
-    );
-    assert_eq!(rt; ran(b"(postfix 0 div)", &[]), faults(Fault::Underflow, 1));
-    assert_eq!(rt;
-        ran(b"(postfix 0 () div)", &[]),
-        faults(Fault::Underflow, 2)
-    );
-    assert_eq!(rt;
-        ran(b"(postfix 0 () 0 div)", &[]),
-        faults(Fault::NoNumeral, 3)
-    );
-    assert_eq!(rt;
-        ran(b"(postfix 0 1 () rem)", &[]),
-        faults(Fault::NoNumeral, 3)
-    );
-    assert_eq!(rt;
-        ran(b"(postfix 1 0 rem)", &[5]),
-        faults(Fault::ZeroDivisor, 2)
-    );
-    assert_eq!(rt; ran(b"(postfix 0 nget)", &[]), faults(Fault::Underflow, 1));
-    assert_eq!(rt;
-        ran(b"(postfix 0 () nget)", &[]),
-        faults(Fault::NoNumeral, 2)
-    );
-    assert_eq!(rt; ran(b"(postfix 0 () 2 nget)", &[]), faults(Fault::Index, 3));
-    assert_eq!(rt;
-        ran(b"(postfix 0 () 1 nget)", &[]),
-        faults(Fault::NoNumeral, 3)
-    );
-    assert_eq!(rt; ran(b"(postfix 0 1 nget)", &[]), faults(Fault::Index, 2));
-    assert_eq!(rt;
-        ran(b"(postfix 2 0 nget)", &[5, 6]),
-        faults(Fault::Index, 2)
-    );
-    assert_eq!(rt;
-        ran(b"(postfix 2 -1 nget)", &[5, 6]),
-        faults(Fault::Index, 2)
-    );
-    assert_eq!(rt;
-        ran(b"(postfix 0 () 1 sel)", &[]),
-        faults(Fault::Underflow, 3)
-    );
-    assert_eq!(rt;
-        ran(b"(postfix 0 () 1 2 sel)", &[]),
-        faults(Fault::NoNumeral, 4)
-    );
-    assert_eq!(rt; ran(b"(postfix 0 exec)", &[]), faults(Fault::Underflow, 1));
-    assert_eq!(rt;
-        ran(b"(postfix 0 1 exec)", &[]),
-        faults(Fault::NoSequence, 2)
-    );
-    assert_eq!(rt; ran(b"(postfix 0)", &[]), faults(Fault::Empty, 0));
-    assert_eq!(rt;
-        ran(b"(postfix 1 ())", &[3]),
-        faults(Fault::SequenceOnTop, 1)
-    );
+    for (text, arguments, fault, steps) in FAULTS {
+        let expected = faults(fault, steps);
+        assert_eq!(rt; ran(text, arguments), expected, "{}", text.escape_ascii());
+    }
 }
+
+// The same with the number that comes of them.
+const NUMBERS: [(&[u8], &[i32], i32, u32); 11] = [
+    (b"(postfix 2 div)", &[-1, -2147483648], -2147483648, 1),
+    (b"(postfix 2 rem)", &[-1, -2147483648], 0, 1),
+    (b"(postfix 2 sub)", &[1, -2147483648], 2147483647, 1),
+    (b"(postfix 2 mul)", &[65536, 65536], 0, 1),
+    (b"(postfix 2 swap lt)", &[-2147483648, 2147483647], 1, 2),
+    (b"(postfix 1 () exec)", &[9], 9, 2),
+    (b"(postfix 1 (() exec () exec) exec)", &[9], 9, 6),
+    (b"(postfix 1 (2 mul) exec)", &[21], 42, 4),
+    (
+        b"(postfix 1 (1 add) swap (2 mul) exec swap exec)",
+        &[20],
+        41,
+        10,
+    ),
+    (b"(postfix 0 (1 (2) exec 3) exec)", &[], 3, 7),
+    (b"(postfix 8)", &[1, 2, 3, 4, 5, 6, 7, 8], 1, 0),
+];
 
 #[test]
 fn numbers_and_sequences_at_their_edges(rt: HostRuntime) {
-    assert_eq!(rt;
-        ran(b"(postfix 2 div)", &[-1, -2147483648]),
-        gives(-2147483648, 1)
-    );
-    assert_eq!(rt; ran(b"(postfix 2 rem)", &[-1, -2147483648]), gives(0, 1));
-    assert_eq!(rt;
-        ran(b"(postfix 2 sub)", &[1, -2147483648]),
-        gives(2147483647, 1)
-    );
-    assert_eq!(rt; ran(b"(postfix 2 mul)", &[65536, 65536]), gives(0, 1));
-    assert_eq!(rt;
-        ran(b"(postfix 2 swap lt)", &[-2147483648, 2147483647]),
-        gives(1, 2)
-    );
-    assert_eq!(rt; ran(b"(postfix 1 () exec)", &[9]), gives(9, 2));
-    assert_eq!(rt;
-        ran(b"(postfix 1 (() exec () exec) exec)", &[9]),
-        gives(9, 6)
-    );
-    assert_eq!(rt; ran(b"(postfix 1 (2 mul) exec)", &[21]), gives(42, 4));
-    assert_eq!(rt;
-        ran(b"(postfix 1 (1 add) swap (2 mul) exec swap exec)", &[20]),
-        gives(41, 10)
-    );
-    assert_eq!(rt; ran(b"(postfix 0 (1 (2) exec 3) exec)", &[]), gives(3, 7));
-    assert_eq!(rt; ran(b"(postfix 8)", &[1, 2, 3, 4, 5, 6, 7, 8]), gives(1, 0));
+    for (text, arguments, number, steps) in NUMBERS {
+        let expected = gives(number, steps);
+        assert_eq!(rt; ran(text, arguments), expected, "{}", text.escape_ascii());
+    }
 }
 
 #[test]
 fn deepest_and_tallest(rt: HostRuntime) -> Result<(), Fail> {
     let heap = rt.alloc();
-    let brackets = repeated(heap, &[(b"(postfix 0 ", 1), (b"(", 255), (b")", 256)])?;
+    let end = (b")".as_slice(), 1);
+    let brackets = repeated(heap, &[(b"(postfix 0 ", 1), (b"(", 255), (b")", 255), end])?;
     assert_eq!(rt;
         ran(brackets.as_slice(), &[]),
         faults(Fault::SequenceOnTop, 1)
     );
     let entered = repeated(
         heap,
-        &[
-            (b"(postfix 1 ", 1),
-            (b"(", 127),
-            (b") exec", 127),
-            (b")", 1),
-        ],
+        &[(b"(postfix 1 ", 1), (b"(", 127), (b") exec", 127), end],
     )?;
     assert_eq!(rt; ran(entered.as_slice(), &[7]), gives(7, 254));
-    let last_entered = repeated(
+    let last = repeated(
         heap,
-        &[
-            (b"(postfix 0 5 ", 1),
-            (b"(", 127),
-            (b" exec)", 127),
-            (b")", 1),
-        ],
+        &[(b"(postfix 0 5 ", 1), (b"(", 127), (b" exec)", 127), end],
     )?;
-    assert_eq!(rt;
-        ran(last_entered.as_slice(), &[]),
-        faults(Fault::SequenceOnTop, 2)
-    );
-    let numerals = repeated(heap, &[(b"(postfix 8 ", 1), (b"3 ", 255), (b")", 1)])?;
-    assert_eq!(rt;
-        ran(numerals.as_slice(), &[1, 2, 3, 4, 5, 6, 7, 8]),
-        gives(3, 255)
-    );
+    assert_eq!(rt; ran(last.as_slice(), &[]), faults(Fault::SequenceOnTop, 2));
+    let numerals = repeated(heap, &[(b"(postfix 8 ", 1), (b"3 ", 255), end])?;
+    let arguments = [1, 2, 3, 4, 5, 6, 7, 8];
+    assert_eq!(rt; ran(numerals.as_slice(), &arguments), gives(3, 255));
     let sums = repeated(
         heap,
-        &[(b"(postfix 1 ", 1), (b"1 ", 127), (b"add ", 127), (b")", 1)],
+        &[(b"(postfix 1 ", 1), (b"1 ", 127), (b"add ", 127), end],
     )?;
     assert_eq!(rt; ran(sums.as_slice(), &[-128]), gives(-1, 254));
     Ok(())
