@@ -114,8 +114,5 @@ fn indexed(values: &Stack<Value<u16>>, index: i32) -> Option<Value<u16>>
 fn depth_of(index: i32) -> Option<usize>
     ensures { result ≡ depth_of_lem index }
 {
-    if index < 1 {
-        return None;
-    }
-    Some((index - 1) as usize)
+    usize::try_from(i64::from(index) - 1).ok()
 }

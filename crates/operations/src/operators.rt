@@ -16,8 +16,8 @@ pub fn compute(operator: Operator, left: i32, right: i32) -> Result<i32, Fault>
         Operator::Mul => Ok(mul(left, right)),
         Operator::Div => Ok(div_rem(left, right)?.0),
         Operator::Rem => Ok(div_rem(left, right)?.1),
-        Operator::Lt => Ok((left < right) as i32),
-        Operator::Eq => Ok((left == right) as i32),
-        Operator::Gt => Ok((left > right) as i32),
+        Operator::Lt => Ok(i32::from(left < right)),
+        Operator::Eq => Ok(i32::from(left == right)),
+        Operator::Gt => Ok(i32::from(left > right)),
     }
 }
