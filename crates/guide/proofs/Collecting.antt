@@ -1,6 +1,6 @@
 -- Arguments are collected word by word.
-use Rattle.std.proofs.Common.{◌≡◌, ℕ, ◌+◌, ◌<◌, ◌≤◌, List, [], ◌∷◌, ◌++◌, map, length, get_or, drop, ℤ, Ok, Err, Result, sym, refl, ap, ◌∙◌, subst, to_z-of_z, w32, SFits, to_z, of_z}
-use Rattle.std.proofs.lemmas.List.{append-nil, append_assoc, at_drop_more, at_drop_all, get_or-map, length-map}
+use Rattle.std.proofs.Common.{◌≡◌, ℕ, ◌+◌, ◌<◌, List, [], ◌∷◌, ◌++◌, map, length, get_or, drop, ℤ, Ok, Err, Result, sym, refl, ap, ◌∙◌, subst, to_z-of_z, w32, SFits, to_z, of_z}
+use Rattle.std.proofs.lemmas.List.{append_assoc, at_drop_more, get_or-map, length-map}
 use Rattle.codes.specs.declared.Refusal.{Refusal}
 use Rattle.grammar.specs.Words.{meaning}
 use Rattle.guide.specs.declared.arguments.ArgumentsError.TheVariants.{Wrong}

@@ -1,5 +1,5 @@
 -- What a report tells, from what reading answered.
-use Rattle.std.proofs.Common.{◌≡◌, ℕ, List, take, Some, None, Err, String, string_bytes, Option, Result, sym, ap, ◌∙◌, subst, arith}
+use Rattle.std.proofs.Common.{◌≡◌, ℕ, List, Err, String, string_bytes, Result, sym, ap, ◌∙◌, subst, arith}
 use Rattle.std.specs.declared.alloc.Global.{Global}
 use Rattle.codes.specs.declared.Refusal.{Refusal}
 use Rattle.syntax.specs.Bounds.{working_places}
@@ -7,25 +7,14 @@ use Rattle.syntax.specs.Code.{Source}
 use Rattle.grammar.specs.Reading.{Verdict, taken, refused, parse, reading}
 use Rattle.grammar.proofs.Reading.{reading_in_enough_places}
 use Rattle.reader.specs.declared.reading.ReadError.{ReadError}
-use Rattle.reader.specs.declared.place.Position.{Position}
-use Rattle.reader.specs.Places.{first_place, position_after}
 use Rattle.reader.specs.Reads.{Blames}
 use Rattle.guide.specs.declared.report.ReportError.{ReportError}
 use Rattle.guide.specs.declared.report.ReportError.TheVariants.{Refused}
-use Rattle.guide.specs.Reports.{refused_lines, position_of, Told, RefusedLine}
+use Rattle.guide.specs.Reports.{refused_line, spot_of, Told, RefusedLine}
 use Rattle.guide.specs.RunReports.{arguments_of, Ran, RunTold}
 
 abbrev pub Told_result : Type 0
 Told_result = Result (String Global) ReportError
-
--- a line with a place
-pub line_at : (text line remark : List ℕ) (x : ReadError) (n : ℕ) (p : Position) → x.at ≡ Some n → p ≡ position_after first_place (take n text) → line ≡ refused_lines x.refusal (Some p) remark → RefusedLine text x line
-line_at text line remark x n p at here e =
-    (remark, e ∙ ap (λ (o : Option Position). refused_lines x.refusal o remark) (ap (λ (q : Position). Some q) here ∙ sym (ap (position_of text) at)))
-
--- a line without one
-pub line_nowhere : (text line remark : List ℕ) (x : ReadError) → x.at ≡ None → line ≡ refused_lines x.refusal None remark → RefusedLine text x line
-line_nowhere text line remark x at e = (remark, e ∙ ap (λ (o : Option Position). refused_lines x.refusal o remark) (sym (ap (position_of text) at)))
 
 -- a text that was read
 pub tells_taken : (text : List ℕ) (p : Source) (r : Told_result) → reading working_places text ≡ taken p → Told text (taken p) r → Told text (parse text) r
@@ -34,7 +23,7 @@ tells_taken text p r e t = subst (λ (v : Verdict). Told text v r) (sym e ∙ re
 -- a text that was refused
 told_by : (text : List ℕ) (v : Verdict) (x : ReadError) (s : String Global) → Blames text v x → RefusedLine text x (string_bytes s) → Told text v (Err (Refused s))
 told_by text (taken p) x s b l = absurd b
-told_by text (refused e ts) x s b l = (x.at, l.0, b.1, l.1 ∙ ap (λ (c : Refusal). refused_lines c (position_of text x.at) l.0) b.0)
+told_by text (refused e ts) x s b l = (x.at, l.0, b.1, l.1 ∙ ap (λ (c : Refusal). refused_line c (spot_of text x.at) l.0) b.0)
 
 pub tells_refused : (text : List ℕ) (x : ReadError) (s : String Global) → Blames text (reading working_places text) x → RefusedLine text x (string_bytes s) → Told text (parse text) (Err (Refused s))
 tells_refused text x s b l = subst (λ (v : Verdict). Told text v (Err (Refused s))) (reading_in_enough_places working_places text (omega arith)) (told_by text (reading working_places text) x s b l)

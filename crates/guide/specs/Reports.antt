@@ -1,5 +1,5 @@
 -- What is said of a text.
-use Rattle.std.specs.Prelude.{◌≡◌, ℕ, List, ◌++◌, take, Some, None, Ok, Err, String, string_bytes, codes, decimal, Option, Result}
+use Rattle.std.specs.Prelude.{◌≡◌, ℕ, List, [], ◌++◌, take, Some, None, Ok, Err, String, string_bytes, codes, decimal, Option, Result}
 use Rattle.std.specs.declared.alloc.Global.{Global}
 use Rattle.codes.specs.declared.Refusal.{Refusal}
 use Rattle.codes.specs.Codes.{refusal_text}
@@ -7,9 +7,10 @@ use Rattle.syntax.specs.Code.{Source, source, commands, sequences}
 use Rattle.grammar.specs.Printing.{print}
 use Rattle.grammar.specs.Reading.{Verdict, taken, refused}
 use Rattle.reader.specs.declared.reading.ReadError.{ReadError}
-use Rattle.reader.specs.declared.place.Position.{Position}
 use Rattle.reader.specs.Places.{first_place, position_after}
-use Rattle.reader.specs.Reads.{Spot}
+use Rattle.reader.specs.Reads.{Spot as Blamed}
+use Rattle.guide.specs.declared.report.Spot.{Spot}
+use Rattle.guide.specs.declared.report.Spot.TheVariants.{Nowhere, Token, Argument}
 use Rattle.guide.specs.declared.report.ReportError.{ReportError}
 use Rattle.guide.specs.declared.report.ReportError.TheVariants.{Refused, Failed}
 
@@ -21,19 +22,20 @@ counts_line k n s = codes "\nparameters " ++ (decimal k ++ (codes ", commands " 
 abbrev pub accepted_lines : Source → List ℕ
 accepted_lines (source k c) = print (source k c) ++ counts_line k (commands c) (sequences c)
 
--- where a wrong token stands, in words, before the rest of a line; nothing where no token is to blame
-abbrev pub where_then : Option Position → List ℕ → List ℕ
-where_then None more = more
-where_then (Some p) more = codes " at line " ++ (decimal p.line ++ (codes ", column " ++ (decimal p.column ++ more)))
+-- where that is which is refused, in words: nothing, a token by its line and column, or an argument
+abbrev pub spot_text : Spot → List ℕ
+spot_text Nowhere = []
+spot_text (Token p) = codes " at line " ++ (decimal p.line ++ (codes ", column " ++ decimal p.column))
+spot_text (Argument n) = codes " at argument " ++ decimal n
 
--- a refusal, where its wrong token stands, and a remark
-abbrev pub refused_lines : Refusal → Option Position → List ℕ → List ℕ
-refused_lines e p remark = codes "refused " ++ (refusal_text e ++ where_then p (codes ": " ++ (remark ++ codes "\n")))
+-- a refusal, where that is which is refused, and a remark
+abbrev pub refused_line : Refusal → Spot → List ℕ → List ℕ
+refused_line e s remark = codes "refused " ++ (refusal_text e ++ (spot_text s ++ (codes ": " ++ (remark ++ codes "\n"))))
 
--- the line and the column of a place in a text, if there is one
-abbrev pub position_of : List ℕ → Option ℕ → Option Position
-position_of text None = None
-position_of text (Some n) = Some (position_after first_place (take n text))
+-- the token at a place of a text, by its line and column, if there is one
+abbrev pub spot_of : List ℕ → Option ℕ → Spot
+spot_of text None = Nowhere
+spot_of text (Some n) = Token (position_after first_place (take n text))
 
 -- a report that could not be made, and is no refusal
 abbrev pub IsFailure : ReportError → Type 0
@@ -46,9 +48,9 @@ abbrev pub Told : List ℕ → Verdict → Result (String Global) ReportError �
 Told text (taken p) (Ok s) = string_bytes s ≡ accepted_lines p
 Told text (taken p) (Err e) = IsFailure e
 Told text (refused e ts) (Ok s) = ⊥
-Told text (refused e ts) (Err (Refused s)) = (at : Option ℕ) × (remark : List ℕ) × Spot text ts at × (string_bytes s ≡ refused_lines e (position_of text at) remark)
+Told text (refused e ts) (Err (Refused s)) = (at : Option ℕ) × (remark : List ℕ) × Blamed text ts at × (string_bytes s ≡ refused_line e (spot_of text at) remark)
 Told text (refused e ts) (Err (Failed x)) = Unit {0}
 
 -- the line of a refusal that an error tells
 abbrev pub RefusedLine : List ℕ → ReadError → List ℕ → Type 0
-RefusedLine text x line = (remark : List ℕ) × (line ≡ refused_lines x.refusal (position_of text x.at) remark)
+RefusedLine text x line = (remark : List ℕ) × (line ≡ refused_line x.refusal (spot_of text x.at) remark)

@@ -4,7 +4,7 @@ use Rattle.std.specs.Fmt.{signed_decimal}
 use Rattle.std.specs.declared.alloc.Global.{Global}
 use Rattle.codes.specs.declared.Refusal.{Refusal}
 use Rattle.codes.specs.declared.Refusal.TheVariants.{Word, Range}
-use Rattle.codes.specs.Codes.{fault_text, refusal_text}
+use Rattle.codes.specs.Codes.{fault_text}
 use Rattle.syntax.specs.Code.{Source}
 use Rattle.grammar.specs.Reading.{Verdict, taken, refused}
 use Rattle.grammar.specs.Words.{Meaning, number, command, huge, strange, meaning}
@@ -15,7 +15,8 @@ use Rattle.guide.specs.declared.arguments.ArgumentsError.{ArgumentsError}
 use Rattle.guide.specs.declared.arguments.ArgumentsError.TheVariants.{Wrong, Memory}
 use Rattle.guide.specs.declared.report.ReportError.{ReportError}
 use Rattle.guide.specs.declared.report.ReportError.TheVariants.{Refused, Failed}
-use Rattle.guide.specs.Reports.{IsFailure, Told}
+use Rattle.guide.specs.declared.report.Spot.TheVariants.{Argument}
+use Rattle.guide.specs.Reports.{refused_line, IsFailure, Told}
 
 -- 1. arguments
 
@@ -56,7 +57,7 @@ Collects (Err w) (Err (Memory e)) = Unit {0}
 
 -- a wrong argument, and a remark
 abbrev pub wrong_line : WrongArgument → List ℕ → List ℕ
-wrong_line w remark = codes "refused " ++ (refusal_text w.refusal ++ (codes " at argument " ++ (decimal w.at ++ (codes ": " ++ (remark ++ codes "\n")))))
+wrong_line w remark = refused_line w.refusal (Argument w.at) remark
 
 -- 2. runs
 

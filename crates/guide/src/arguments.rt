@@ -3,7 +3,7 @@ ghost use Rattle.grammar.specs.Words.{meaning};
 ghost use Rattle.guide.specs.RunReports.{Collects, IsMemory, argument_of, arguments_of, wrong_line};
 ghost use Rattle.std.specs.Prelude.{◌≡◌, ℕ, List, map, IfOk, string_bytes};
 
-use super::report::OUT_OF_RANGE;
+use super::report::{OUT_OF_RANGE, Spot, refusal_line};
 use codes::Refusal;
 use lexer::command;
 use std::alloc::{AllocError, AllocFailed, Global};
@@ -70,14 +70,5 @@ pub(crate) fn wrong_argument(heap: Global, wrong: WrongArgument) -> Result<Strin
         Refusal::Range => OUT_OF_RANGE,
         _ => "this is no numeral",
     };
-    line_with_remark(heap, wrong, remark)
-}
-
-// The line of a wrong argument.
-fn line_with_remark(heap: Global, wrong: WrongArgument, remark: &str) -> Result<String, AllocError>
-    ensures { IfOk result (λ s. string_bytes s ≡ wrong_line wrong remark.now) }
-{
-    let code = wrong.refusal;
-    let at = wrong.at;
-    format!(in heap; "refused {code} at argument {at}: {remark}\n")
+    refusal_line(heap, wrong.refusal, Spot::Argument(wrong.at), remark)
 }

@@ -1,18 +1,18 @@
 // What is said of a run: its result and its steps, or why there is none.
 ghost use Rattle.grammar.specs.Reading.{parse};
-ghost use Rattle.guide.specs.RunReports.{Ran, RunTold, arguments_of, outcome_line, run_line};
+ghost use Rattle.guide.specs.RunReports.{Ran, RunTold, arguments_of, run_line};
 ghost use Rattle.program.specs.Programs.{program_of};
 ghost use Rattle.semantics.specs.Meaning.{run};
-ghost use Rattle.std.specs.Prelude.{◌≡◌, map, IfOk, Ok, Err, string_bytes};
+ghost use Rattle.std.specs.Prelude.{◌≡◌, map, Some, string_bytes};
 
 use super::arguments::{ArgumentsError, arguments, wrong_argument};
 use super::report::{ReportError, refusal};
-use codes::Fault;
 use interpreter::run;
 use program::Program;
 use reader::read;
 use semantics::{Run, Value};
-use std::alloc::{AllocError, Global};
+use std::alloc::Global;
+use std::fmt;
 use syntax::WORKING_PLACES;
 
 // What is said of a text whose program is to run on these words. The text is read first.
@@ -32,7 +32,7 @@ fn program_report(heap: Global, program: &Program, words: &[String]) -> Result<S
     ensures { Ran (program_of program.now) (arguments_of (map string_bytes words.now)) result }
 {
     match arguments(heap, words) {
-        Ok(numbers) => Ok(outcome(heap, run_on(program, numbers.as_slice()))?),
+        Ok(numbers) => Ok(RunLine(run_on(program, numbers.as_slice())).to_string(heap)?),
         Err(ArgumentsError::Wrong(wrong)) => Err(ReportError::Refused(wrong_argument(
             heap, wrong,
         )?)),
@@ -49,29 +49,21 @@ fn run_on(program: &Program, numbers: &[i32]) -> Run
     run(program, numbers, &mut values, &mut chains).unwrap()
 }
 
-// A line of what a run came to, a fault too, and of its steps.
-fn outcome(heap: Global, ran: Run) -> Result<String, AllocError>
-    ensures { IfOk result (λ s. string_bytes s ≡ run_line ran) }
-{
-    let steps = ran.spent.steps;
-    match ran.outcome {
-        Ok(number) => result_line(heap, number, steps),
-        Err(fault) => fault_line(heap, fault, steps),
+// A run, as the line that is said of it.
+#[derive(Clone, Copy)]
+pub struct RunLine(pub Run);
+
+// What it came to, a fault too, and its steps.
+impl fmt::Display for RunLine {
+    ghost output = { λ l. Some (run_line l.0) };
+
+    fn fmt<W: fmt::Write>(&self, f: &mut fmt::Formatter<W>) -> fmt::Result {
+        let steps = self.0.spent.steps;
+        match self.0.outcome {
+            Ok(number) => write!(f, "result {number} in {steps} steps\n"),
+            Err(fault) => write!(f, "fault {fault} in {steps} steps\n"),
+        }
     }
-}
-
-// The line of a number.
-fn result_line(heap: Global, number: i32, steps: u32) -> Result<String, AllocError>
-    ensures { IfOk result (λ s. string_bytes s ≡ outcome_line (Ok number) steps) }
-{
-    format!(in heap; "result {number} in {steps} steps\n")
-}
-
-// The line of a fault.
-fn fault_line(heap: Global, fault: Fault, steps: u32) -> Result<String, AllocError>
-    ensures { IfOk result (λ s. string_bytes s ≡ outcome_line (Err fault) steps) }
-{
-    format!(in heap; "fault {fault} in {steps} steps\n")
 }
 
 #[cfg(test)]

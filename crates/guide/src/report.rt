@@ -1,7 +1,7 @@
 // What is said of a text: the program in its standard form, or the refusal and where the wrong token stands.
-ghost use Rattle.guide.specs.Reports.{IsFailure, RefusedLine, Told, accepted_lines, counts_line, refused_lines};
+ghost use Rattle.guide.specs.Reports.{IsFailure, RefusedLine, Told, accepted_lines, counts_line, refused_line, spot_of, spot_text};
 ghost use Rattle.program.specs.Programs.{program_of};
-ghost use Rattle.std.specs.Prelude.{◌≡◌, ◌++◌, IfOk, Some, None, string_bytes};
+ghost use Rattle.std.specs.Prelude.{◌≡◌, ◌++◌, IfOk, Some, string_bytes};
 ghost use Rattle.grammar.specs.Reading.{parse};
 
 use anyhow::anyhow;
@@ -10,6 +10,7 @@ use printer::print;
 use program::Program;
 use reader::{Position, ReadError, locate, read};
 use std::alloc::{AllocError, Global};
+use std::fmt;
 use std::str::from_utf8;
 use syntax::{MOST_BYTES, WORKING_PLACES};
 
@@ -40,6 +41,30 @@ impl From<anyhow::Error> for ReportError {
 
     fn from(error: anyhow::Error) -> ReportError {
         ReportError::Failed(error)
+    }
+}
+
+// Where that is which is refused.
+#[derive(Clone, Copy)]
+pub enum Spot {
+    // nothing is to blame
+    Nowhere,
+    // a token of the text, by where it begins
+    Token(Position),
+    // an argument, counted from 1
+    Argument(usize),
+}
+
+// As it stands in a line behind the refusal.
+impl fmt::Display for Spot {
+    ghost output = { λ s. Some (spot_text s) };
+
+    fn fmt<W: fmt::Write>(&self, f: &mut fmt::Formatter<W>) -> fmt::Result {
+        match self {
+            Spot::Nowhere => Ok(()),
+            Spot::Token(here) => write!(f, " at line {}, column {}", here.line, here.column),
+            Spot::Argument(at) => write!(f, " at argument {at}"),
+        }
     }
 }
 
@@ -98,29 +123,29 @@ pub(crate) fn refusal(heap: Global, text: &[u8], error: ReadError) -> Result<Str
     } else {
         reason(error)
     };
-    match error.at {
-        Some(at) => line_with_place(heap, error.refusal, locate(text, at), remark),
-        None => line_without_place(heap, error.refusal, remark),
+    refusal_line(heap, error.refusal, token_at(text, error.at), remark)
+}
+
+// The token at a place of the text, if there is one.
+fn token_at(text: &[u8], at: Option<usize>) -> Spot
+    ensures { result ≡ spot_of text.now at }
+{
+    match at {
+        Some(at) => Spot::Token(locate(text, at)),
+        None => Spot::Nowhere,
     }
 }
 
-fn line_with_place(
+// The line of a refusal.
+pub(crate) fn refusal_line(
     heap: Global,
     code: Refusal,
-    here: Position,
+    spot: Spot,
     remark: &str,
 ) -> Result<String, AllocError>
-    ensures { IfOk result (λ s. string_bytes s ≡ refused_lines code (Some here) remark.now) }
+    ensures { IfOk result (λ s. string_bytes s ≡ refused_line code spot remark.now) }
 {
-    let line = here.line;
-    let column = here.column;
-    format!(in heap; "refused {code} at line {line}, column {column}: {remark}\n")
-}
-
-fn line_without_place(heap: Global, code: Refusal, remark: &str) -> Result<String, AllocError>
-    ensures { IfOk result (λ s. string_bytes s ≡ refused_lines code None remark.now) }
-{
-    format!(in heap; "refused {code}: {remark}\n")
+    format!(in heap; "refused {code}{spot}: {remark}\n")
 }
 
 // What is wrong, in words.
