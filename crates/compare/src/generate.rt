@@ -31,7 +31,7 @@ pub(crate) struct Generator {
 }
 
 impl Generator {
-    // What the seed makes.
+    // What a seed makes.
     pub(crate) fn new(heap: Global, seed: u64) -> Generator {
         Generator {
             heap,

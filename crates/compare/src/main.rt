@@ -84,7 +84,7 @@ impl Settings {
         words.next().is_none().then_some(Settings { count, seed })
     }
 
-    // The table, and then so many programs from the seed.
+    // The table, and then so many programs from a seed.
     fn compare_all(self, heap: Global) -> Result<Tally, Failure> {
         let mut tally = Tally::default();
         compare_examples(heap, &mut tally)?;
