@@ -33,6 +33,10 @@ pub digital-from : (w : List ℕ) → 0 < length w → all_ascii_digits w ≡ tr
 digital-from [] l h = absurd (omega arith)
 digital-from (c ∷ w) l h = h
 
+-- the value of a digit
+pub digit_value_lem : (c : ℕ) → 48 ≤ c → c ≤ 57 → digit_value c ≡ c - 48
+digit_value_lem c l h = grind (arith, nat_tests)
+
 -- a value that is held at 2 ^ 32, one digit more
 pub held_more : (xs : List ℕ) (i v : ℕ) → i < length xs → v ≡ min (digits_value 10 (take i xs)) (2 ^ 32) → min (2 ^ 32) (v * 10 + digit_value (get_or xs i 0)) ≡ min (digits_value 10 (take (i + 1) xs)) (2 ^ 32)
 held_more xs i v l e = omega (arith, digits_value_more 10 xs i l)

@@ -13,6 +13,7 @@ ghost use Rattle.printer.specs.Writing.{Adds, close_behind, ending, heading, wri
 use super::text::Text;
 use codes::Refusal;
 use program::{Program, Walker};
+use stack::Stack;
 use syntax::{Event, Name, Operator, WORKING_PLACES};
 
 // Writes the program's text to the front of `out`, and says how long it is.
@@ -42,7 +43,8 @@ fn spell(program: &Program, chains: &mut [u16], out: &mut [u8]) -> Result<usize,
     ensures answer { result ≡ Ok (length (printed (program_of program.now))) }
     ensures bytes { out.new ≡ written out.old (printed (program_of program.now)) }
 {
-    let mut walker = Walker::new(program, chains);
+    let mut stack = Stack::new(chains);
+    let mut walker = Walker::new(program, &mut stack);
     let mut text = Text::new(out);
     text.put_heading(program.parameters());
     text.put_events(&mut walker)?;

@@ -40,8 +40,8 @@ module _ (e : Event) (d w : Draft) (n : ℕ) where
 
 -- an event that was taken led on to the draft that the builder holds now
 pub taken : (e : Event) (b d : Builder) → Took e b d (Ok tt) → feed e (working b) ≡ Some (working d)
-taken e b d t = accepted e (working b) (working d) (room b.opens) (feed e (working b)) t.answers t.holds
+taken e b d t = accepted e (working b) (working d) (room b.opens.now) (feed e (working b)) t.answers t.holds
 
 -- an event that was not taken leads nowhere, and the builder holds what it held
-pub not_taken : (e : Event) (b d : Builder) (r : Refusal) → most_commands ≤ room b.opens → Took e b d (Err r) → (feed e (working b) ≡ None) × (r ≡ refusal_of e) × (working d ≡ working b)
-not_taken e b d r l t = declined e (working b) (working d) (room b.opens) r (feed e (working b)) refl l t.answers t.holds
+pub not_taken : (e : Event) (b d : Builder) (r : Refusal) → most_commands ≤ room b.opens.now → Took e b d (Err r) → (feed e (working b) ≡ None) × (r ≡ refusal_of e) × (working d ≡ working b)
+not_taken e b d r l t = declined e (working b) (working d) (room b.opens.now) r (feed e (working b)) refl l t.answers t.holds

@@ -37,35 +37,38 @@ leads_nowhere e d n h = ap (within e d n) h
 
 -- all but the draft stays
 pub record Stays (b d : Builder) : Type 0 where
-  pub rooms : room d.opens ≡ room b.opens
+  pub rooms : room d.opens.now ≡ room b.opens.now
   pub arities : d.arity ≡ b.arity
-  pub memories : d.opens.places.ghost_name ≡ b.opens.places.ghost_name
+  pub names : d.opens.ghost_name ≡ b.opens.ghost_name
+  pub memories : d.opens.now.places.ghost_name ≡ b.opens.now.places.ghost_name
 
 pub unmoved : (b : Builder) → Stays b b
-unmoved b = record { rooms = refl; arities = refl; memories = refl }
+unmoved b = record { rooms = refl; arities = refl; names = refl; memories = refl }
 
-took : (e : Event) (b d : Builder) (f : Draft) → Stays b d → offered e (working b) (room b.opens) ≡ Ok f → working d ≡ f → Took e b d (Ok tt)
+took : (e : Event) (b d : Builder) (f : Draft) → Stays b d → offered e (working b) (room b.opens.now) ≡ Ok f → working d ≡ f → Took e b d (Ok tt)
 took e b d f s h w = record {
   answers = ap answer (sym h);
   holds = w ∙ ap (λ (x : Result Draft Refusal). draft_after x (working b)) (sym h);
   room = s.rooms;
   arity = s.arities;
-  same = s.memories;
+  same = s.names;
+  places = s.memories;
 }
 
-refused : (e : Event) (b d : Builder) (r : Refusal) → Stays b d → offered e (working b) (room b.opens) ≡ Err r → working d ≡ working b → Took e b d (Err r)
+refused : (e : Event) (b d : Builder) (r : Refusal) → Stays b d → offered e (working b) (room b.opens.now) ≡ Err r → working d ≡ working b → Took e b d (Err r)
 refused e b d r s h w = record {
   answers = ap answer (sym h);
   holds = w ∙ ap (λ (x : Result Draft Refusal). draft_after x (working b)) (sym h);
   room = s.rooms;
   arity = s.arities;
-  same = s.memories;
+  same = s.names;
+  places = s.memories;
 }
 
 -- there is room for one more command, or not
 module _ (b : Builder) where
   used_so : b.used ≡ suc (commands_so_far (working b))
-  used_so = used_is b.places b.used b.last b.sequences (held b.opens) b.sound
+  used_so = used_is b.places b.used b.last b.sequences (held b.opens.now) b.sound
 
   admitted : (d : Draft) → b.used < table_places → admit (commands_so_far (working b)) d ≡ Some d
   admitted d l = cond-true (ltb (commands_so_far (working b)) most_commands) (Some d) None (lt-ltb _ most_commands (omega (arith, used_so)))
@@ -74,23 +77,23 @@ module _ (b : Builder) where
   full d l = cond-false (ltb (commands_so_far (working b)) most_commands) (Some d) None (le-ltb _ most_commands (omega (arith, used_so)))
 
   -- whether an opening bracket finds a place in lent memory
-  has_place : (r : Bool) → r ≡ ltb (length (held b.opens)) (room b.opens) → r ≡ true → lacks Open (working b) (room b.opens) ≡ false
-  has_place r e t = lt-leb _ _ (omega (arith, ltb-true _ _ (sym e ∙ t), depth_is b.places b.used (held b.opens)))
+  has_place : (r : Bool) → r ≡ ltb (length (held b.opens.now)) (room b.opens.now) → r ≡ true → lacks Open (working b) (room b.opens.now) ≡ false
+  has_place r e t = lt-leb _ _ (omega (arith, ltb-true _ _ (sym e ∙ t), depth_is b.places b.used (held b.opens.now)))
 
-  no_place : (r : Bool) → r ≡ ltb (length (held b.opens)) (room b.opens) → r ≡ false → lacks Open (working b) (room b.opens) ≡ true
-  no_place r e t = le-leb _ _ (omega (arith, ltb-false _ _ (sym e ∙ t), depth_is b.places b.used (held b.opens)))
+  no_place : (r : Bool) → r ≡ ltb (length (held b.opens.now)) (room b.opens.now) → r ≡ false → lacks Open (working b) (room b.opens.now) ≡ true
+  no_place r e t = le-leb _ _ (omega (arith, ltb-false _ _ (sym e ∙ t), depth_is b.places b.used (held b.opens.now)))
 
 -- there are fewer sequences than places in use
 pub sequences_in : (b : Builder) → (b.sequences < b.used) × (b.used ≤ table_places)
 sequences_in b =
-    let s = counted_is b.places b.used b.last b.sequences (held b.opens) b.sound in
-    let u = used_in b.places b.used b.last b.sequences (held b.opens) b.sound in
+    let s = counted_is b.places b.used b.last b.sequences (held b.opens.now) b.sound in
+    let u = used_in b.places b.used b.last b.sequences (held b.opens.now) b.sound in
     (omega (arith, used_so b, sequences_so_far_le (working b)), u)
 
 -- a numeral
 
 last_below : (b : Builder) → b.last < b.used
-last_below b = last_in b.places b.used b.last b.sequences (held b.opens) b.sound
+last_below b = last_in b.places b.used b.last b.sequences (held b.opens.now) b.sound
 
 -- the last place of the innermost chain, and the next unused one, are places of the table
 pub both_in : (b : Builder) → b.used < table_places → (b.last < table_places) × (b.used < table_places)
@@ -98,45 +101,45 @@ both_in b l = (omega (arith, last_below b), l)
 
 module _ (b : Builder) (k : ℤ) where
   numeral_kept : (qs : List Place) → qs ≡ placed b.places b.last b.used (Numeral k) → b.used < table_places → in_range k ≡ true
-      → Held qs (b.used + 1) b.used b.sequences (held b.opens) (draft (append (inner b.places b.used (held b.opens)) (numeral k end)) (outer b.places (held b.opens)))
+      → Held qs (b.used + 1) b.used b.sequences (held b.opens.now) (draft (append (inner b.places b.used (held b.opens.now)) (numeral k end)) (outer b.places (held b.opens.now)))
   numeral_kept qs same l r =
-      subst (λ (x : List Place). Held x (b.used + 1) b.used b.sequences (held b.opens) (draft (append (inner b.places b.used (held b.opens)) (numeral k end)) (outer b.places (held b.opens))))
-      (sym same) (add_numeral b.places b.used b.last b.sequences (held b.opens) b.sound k l r)
+      subst (λ (x : List Place). Held x (b.used + 1) b.used b.sequences (held b.opens.now) (draft (append (inner b.places b.used (held b.opens.now)) (numeral k end)) (outer b.places (held b.opens.now))))
+      (sym same) (add_numeral b.places b.used b.last b.sequences (held b.opens.now) b.sound k l r)
 
-  numeral_taken : (d : Builder) → Stays b d → b.used < table_places → working d ≡ draft (append (inner b.places b.used (held b.opens)) (numeral k end)) (outer b.places (held b.opens)) → Took (NumeralEvent k) b d (Ok tt)
-  numeral_taken d s l w = took (NumeralEvent k) b d (draft (append (inner b.places b.used (held b.opens)) (numeral k end)) (outer b.places (held b.opens))) s
-      (leads_on (NumeralEvent k) (working b) (draft (append (inner b.places b.used (held b.opens)) (numeral k end)) (outer b.places (held b.opens))) (room b.opens) (admitted b _ l) refl) w
+  numeral_taken : (d : Builder) → Stays b d → b.used < table_places → working d ≡ draft (append (inner b.places b.used (held b.opens.now)) (numeral k end)) (outer b.places (held b.opens.now)) → Took (NumeralEvent k) b d (Ok tt)
+  numeral_taken d s l w = took (NumeralEvent k) b d (draft (append (inner b.places b.used (held b.opens.now)) (numeral k end)) (outer b.places (held b.opens.now))) s
+      (leads_on (NumeralEvent k) (working b) (draft (append (inner b.places b.used (held b.opens.now)) (numeral k end)) (outer b.places (held b.opens.now))) (room b.opens.now) (admitted b _ l) refl) w
 
   numeral_refused : table_places ≤ b.used → Took (NumeralEvent k) b b (Err Crowd)
-  numeral_refused l = refused (NumeralEvent k) b b Crowd (unmoved b) (leads_nowhere (NumeralEvent k) (working b) (room b.opens) (full b (draft (append (inner b.places b.used (held b.opens)) (numeral k end)) (outer b.places (held b.opens))) l)) refl
+  numeral_refused l = refused (NumeralEvent k) b b Crowd (unmoved b) (leads_nowhere (NumeralEvent k) (working b) (room b.opens.now) (full b (draft (append (inner b.places b.used (held b.opens.now)) (numeral k end)) (outer b.places (held b.opens.now))) l)) refl
 
 -- a name
 
 module _ (b : Builder) (o : CommandName) where
   name_kept : (qs : List Place) → qs ≡ placed b.places b.last b.used (Name o) → b.used < table_places
-      → Held qs (b.used + 1) b.used b.sequences (held b.opens) (draft (append (inner b.places b.used (held b.opens)) (name_then o end)) (outer b.places (held b.opens)))
+      → Held qs (b.used + 1) b.used b.sequences (held b.opens.now) (draft (append (inner b.places b.used (held b.opens.now)) (name_then o end)) (outer b.places (held b.opens.now)))
   name_kept qs same l =
-      subst (λ (x : List Place). Held x (b.used + 1) b.used b.sequences (held b.opens) (draft (append (inner b.places b.used (held b.opens)) (name_then o end)) (outer b.places (held b.opens))))
-      (sym same) (add_name b.places b.used b.last b.sequences (held b.opens) b.sound o l)
+      subst (λ (x : List Place). Held x (b.used + 1) b.used b.sequences (held b.opens.now) (draft (append (inner b.places b.used (held b.opens.now)) (name_then o end)) (outer b.places (held b.opens.now))))
+      (sym same) (add_name b.places b.used b.last b.sequences (held b.opens.now) b.sound o l)
 
-  name_taken : (d : Builder) → Stays b d → b.used < table_places → working d ≡ draft (append (inner b.places b.used (held b.opens)) (name_then o end)) (outer b.places (held b.opens)) → Took (NameEvent o) b d (Ok tt)
-  name_taken d s l w = took (NameEvent o) b d (draft (append (inner b.places b.used (held b.opens)) (name_then o end)) (outer b.places (held b.opens))) s
-      (leads_on (NameEvent o) (working b) (draft (append (inner b.places b.used (held b.opens)) (name_then o end)) (outer b.places (held b.opens))) (room b.opens) (admitted b _ l) refl) w
+  name_taken : (d : Builder) → Stays b d → b.used < table_places → working d ≡ draft (append (inner b.places b.used (held b.opens.now)) (name_then o end)) (outer b.places (held b.opens.now)) → Took (NameEvent o) b d (Ok tt)
+  name_taken d s l w = took (NameEvent o) b d (draft (append (inner b.places b.used (held b.opens.now)) (name_then o end)) (outer b.places (held b.opens.now))) s
+      (leads_on (NameEvent o) (working b) (draft (append (inner b.places b.used (held b.opens.now)) (name_then o end)) (outer b.places (held b.opens.now))) (room b.opens.now) (admitted b _ l) refl) w
 
   name_refused : table_places ≤ b.used → Took (NameEvent o) b b (Err Crowd)
-  name_refused l = refused (NameEvent o) b b Crowd (unmoved b) (leads_nowhere (NameEvent o) (working b) (room b.opens) (full b (draft (append (inner b.places b.used (held b.opens)) (name_then o end)) (outer b.places (held b.opens))) l)) refl
+  name_refused l = refused (NameEvent o) b b Crowd (unmoved b) (leads_nowhere (NameEvent o) (working b) (room b.opens.now) (full b (draft (append (inner b.places b.used (held b.opens.now)) (name_then o end)) (outer b.places (held b.opens.now))) l)) refl
 
 -- either
 
 abbrev pub grown : Builder → Command → Draft
-grown b (Numeral k) = draft (append (inner b.places b.used (held b.opens)) (numeral k end)) (outer b.places (held b.opens))
-grown b (Name o) = draft (append (inner b.places b.used (held b.opens)) (name_then o end)) (outer b.places (held b.opens))
+grown b (Numeral k) = draft (append (inner b.places b.used (held b.opens.now)) (numeral k end)) (outer b.places (held b.opens.now))
+grown b (Name o) = draft (append (inner b.places b.used (held b.opens.now)) (name_then o end)) (outer b.places (held b.opens.now))
 grown b (Sequence f) = working b
 
 no_sequence : {A : Type 0} → false ≡ true → A
 no_sequence e = let z : ◌≡◌ {A = ℕ} 0 1 = cc in absurd (omega arith)
 
-pub plain_kept : (b : Builder) (c : Command) (qs : List Place) → plain c ≡ true → qs ≡ placed b.places b.last b.used c → b.used < table_places → Held qs (b.used + 1) b.used b.sequences (held b.opens) (grown b c)
+pub plain_kept : (b : Builder) (c : Command) (qs : List Place) → plain c ≡ true → qs ≡ placed b.places b.last b.used c → b.used < table_places → Held qs (b.used + 1) b.used b.sequences (held b.opens.now) (grown b c)
 plain_kept b (Numeral k) qs p same l = numeral_kept b k qs same l p
 plain_kept b (Name o) qs p same l = name_kept b o qs same l
 plain_kept b (Sequence f) qs p same l = no_sequence p
@@ -154,25 +157,25 @@ plain-refused b (Sequence f) p l = no_sequence p
 -- a bracket that opens
 
 module _ (b : Builder) where
-  pub open_kept : (qs : List Place) (os : List ℕ) → qs ≡ placed b.places b.last b.used (Sequence 0) → os ≡ b.used ∷ held b.opens → b.used < table_places
-      → Held qs (b.used + 1) 0 (b.sequences + 1) os (draft end (inner b.places b.used (held b.opens) ∷ outer b.places (held b.opens)))
+  pub open_kept : (qs : List Place) (os : List ℕ) → qs ≡ placed b.places b.last b.used (Sequence 0) → os ≡ b.used ∷ held b.opens.now → b.used < table_places
+      → Held qs (b.used + 1) 0 (b.sequences + 1) os (draft end (inner b.places b.used (held b.opens.now) ∷ outer b.places (held b.opens.now)))
   open_kept qs os same over l =
-      subst (λ (x : List Place). Held x (b.used + 1) 0 (b.sequences + 1) os (draft end (inner b.places b.used (held b.opens) ∷ outer b.places (held b.opens)))) (sym same)
-      (subst (λ (x : List ℕ). Held (placed b.places b.last b.used (Sequence 0)) (b.used + 1) 0 (b.sequences + 1) x (draft end (inner b.places b.used (held b.opens) ∷ outer b.places (held b.opens)))) (sym over)
-      (add_open b.places b.used b.last b.sequences (held b.opens) b.sound l))
+      subst (λ (x : List Place). Held x (b.used + 1) 0 (b.sequences + 1) os (draft end (inner b.places b.used (held b.opens.now) ∷ outer b.places (held b.opens.now)))) (sym same)
+      (subst (λ (x : List ℕ). Held (placed b.places b.last b.used (Sequence 0)) (b.used + 1) 0 (b.sequences + 1) x (draft end (inner b.places b.used (held b.opens.now) ∷ outer b.places (held b.opens.now)))) (sym over)
+      (add_open b.places b.used b.last b.sequences (held b.opens.now) b.sound l))
 
-  leads_in : b.used < table_places → feed Open (working b) ≡ Some (draft end (inner b.places b.used (held b.opens) ∷ outer b.places (held b.opens)))
+  leads_in : b.used < table_places → feed Open (working b) ≡ Some (draft end (inner b.places b.used (held b.opens.now) ∷ outer b.places (held b.opens.now)))
   leads_in l = admitted b _ l
 
-  pub open_taken : (d : Builder) (r : Bool) → Stays b d → b.used < table_places → r ≡ ltb (length (held b.opens)) (room b.opens) → r ≡ true
-      → working d ≡ draft end (inner b.places b.used (held b.opens) ∷ outer b.places (held b.opens)) → Took Open b d (Ok tt)
-  open_taken d r s l e t w = took Open b d _ s (leads_on Open (working b) _ (room b.opens) (leads_in l) (has_place b r e t)) w
+  pub open_taken : (d : Builder) (r : Bool) → Stays b d → b.used < table_places → r ≡ ltb (length (held b.opens.now)) (room b.opens.now) → r ≡ true
+      → working d ≡ draft end (inner b.places b.used (held b.opens.now) ∷ outer b.places (held b.opens.now)) → Took Open b d (Ok tt)
+  open_taken d r s l e t w = took Open b d _ s (leads_on Open (working b) _ (room b.opens.now) (leads_in l) (has_place b r e t)) w
 
-  pub open_short : (d : Builder) (r : Bool) → Stays b d → b.used < table_places → r ≡ ltb (length (held b.opens)) (room b.opens) → r ≡ false → working d ≡ working b → Took Open b d (Err Space)
-  open_short d r s l e t w = refused Open b d Space s (lacks_space Open (working b) _ (room b.opens) (leads_in l) (no_place b r e t)) w
+  pub open_short : (d : Builder) (r : Bool) → Stays b d → b.used < table_places → r ≡ ltb (length (held b.opens.now)) (room b.opens.now) → r ≡ false → working d ≡ working b → Took Open b d (Err Space)
+  open_short d r s l e t w = refused Open b d Space s (lacks_space Open (working b) _ (room b.opens.now) (leads_in l) (no_place b r e t)) w
 
   pub open_refused : table_places ≤ b.used → Took Open b b (Err Crowd)
-  open_refused l = refused Open b b Crowd (unmoved b) (leads_nowhere Open (working b) (room b.opens) (full b (draft end (inner b.places b.used (held b.opens) ∷ outer b.places (held b.opens))) l)) refl
+  open_refused l = refused Open b b Crowd (unmoved b) (leads_nowhere Open (working b) (room b.opens.now) (full b (draft end (inner b.places b.used (held b.opens.now) ∷ outer b.places (held b.opens.now))) l)) refl
 
 -- one that closes
 
@@ -180,7 +183,7 @@ pub cons_of : {A : Type 0} (xs : List A) (x : A) → Some x ≡ head_of xs → x
 cons_of [] x e = cc
 cons_of (y ∷ ys) x e = cc
 
-module _ (b : Builder) (o : ℕ) (os : List ℕ) (top : held b.opens ≡ o ∷ os) where
+module _ (b : Builder) (o : ℕ) (os : List ℕ) (top : held b.opens.now ≡ o ∷ os) where
   under : holds_draft b.places b.used b.last b.sequences (o ∷ os) ≡ true
   under = subst (λ (x : List ℕ). holds_draft b.places b.used b.last b.sequences x ≡ true) top b.sound
 
@@ -197,7 +200,7 @@ module _ (b : Builder) (o : ℕ) (os : List ℕ) (top : held b.opens ≡ o ∷ o
   closes = ap (λ (x : List ℕ). feed Close (drafted b.places b.used x)) top
 
   pub close_taken : (d : Builder) → Stays b d → working d ≡ draft (append (inner b.places o os) (sequence (inner b.places b.used (o ∷ os)) end)) (outer b.places os) → Took Close b d (Ok tt)
-  close_taken d s w = took Close b d _ s (leads_on Close (working b) _ (room b.opens) closes refl) w
+  close_taken d s w = took Close b d _ s (leads_on Close (working b) _ (room b.opens.now) closes refl) w
 
 -- the end
 
@@ -212,10 +215,10 @@ pub record Finished (b : Builder) (t : Table) : Type 0 where
   pub kept : whole t ≡ true
   pub built : Some (source_of t) ≡ completed b.arity.count (finished (working b))
 
-pub finishes : (b : Builder) (first : ℕ) (t : Table) → length (held b.opens) ≤ 0 → (b.used ≡ 1 → first ≡ 0) → ((b.used ≡ 1 → ⊥) → first ≡ 1)
+pub finishes : (b : Builder) (first : ℕ) (t : Table) → length (held b.opens.now) ≤ 0 → (b.used ≡ 1 → first ≡ 0) → ((b.used ≡ 1 → ⊥) → first ≡ 1)
     → t.places ≡ set b.places 0 (place (Numeral (pos 0)) first) → t.commands ≡ b.used - 1 → t.sequences ≡ b.sequences → t.parameters ≡ b.arity.count → Finished b t
 finishes b first t l x y places n s k =
-    let none = none_open (held b.opens) l in
+    let none = none_open (held b.opens.now) l in
     let h : holds_draft b.places b.used b.last b.sequences [] ≡ true = subst (λ (os : List ℕ). holds_draft b.places b.used b.last b.sequences os ≡ true) none b.sound in
     let few = b.arity.few in
     let r = finish b.places b.used b.last b.sequences first t h x y places n s (omega arith) in

@@ -29,7 +29,7 @@ event_of (SequenceCommand f) = Open
 
 -- the draft that a builder holds
 abbrev pub working : Builder → Draft
-working b = drafted b.places b.used (held b.opens)
+working b = drafted b.places b.used (held b.opens.now)
 
 -- why an event is not taken: there is no bracket to close, or a command is one too many
 abbrev pub refusal_of : Event → Refusal
@@ -66,11 +66,12 @@ draft_after (Err r) d = d
 
 -- what a call that is handed an event leaves
 pub record Took (e : Event) (b d : Builder) (r : Result (Unit {0}) Refusal) : Type 0 where
-  pub answers : r ≡ answer (offered e (working b) (room b.opens))
-  pub holds : working d ≡ draft_after (offered e (working b) (room b.opens)) (working b)
-  pub room : room d.opens ≡ room b.opens
+  pub answers : r ≡ answer (offered e (working b) (room b.opens.now))
+  pub holds : working d ≡ draft_after (offered e (working b) (room b.opens.now)) (working b)
+  pub room : room d.opens.now ≡ room b.opens.now
   pub arity : d.arity ≡ b.arity
-  pub same : d.opens.places.ghost_name ≡ b.opens.places.ghost_name
+  pub same : d.opens.ghost_name ≡ b.opens.ghost_name
+  pub places : d.opens.now.places.ghost_name ≡ b.opens.now.places.ghost_name
 
 -- the program of a finished draft
 abbrev pub completed : ℕ → Option Code → Option Source

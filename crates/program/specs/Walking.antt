@@ -11,11 +11,11 @@ use Rattle.program.specs.declared.walker.Walker.{Walker}
 
 -- the events that a walk has yet to pass
 abbrev pub left : Walker → List Event
-left w = left_of w.program.now.table.places w.at (held w.after)
+left w = left_of w.program.now.table.places w.at (held w.after.now)
 
 -- how many brackets it is in
 abbrev pub inside : Walker → ℕ
-inside w = length (held w.after)
+inside w = length (held w.after.now)
 
 -- what comes next, within n places of lent memory of which d are taken: the event, none at the end, or that memory is short
 abbrev pub next_of : List Event → ℕ → ℕ → Result (Option Event) Refusal
@@ -34,4 +34,4 @@ left_after (Err r) es = es
 
 -- lent memory suffices for the brackets that are yet to open
 abbrev pub Ample : Walker → Type 0
-Ample w = openings (left w) + inside w ≤ room w.after
+Ample w = openings (left w) + inside w ≤ room w.after.now

@@ -1,5 +1,5 @@
 // How a builder takes events.
-ghost use Rattle.std.specs.Prelude.{◌≡◌, ◌+◌, ◌<◌, true, length};
+ghost use Rattle.std.specs.Prelude.{◌≡◌, ◌+◌, ◌<◌, true};
 ghost use Rattle.layout.specs.Drafts.{placed};
 ghost use Rattle.layout.specs.Tables.{table_places};
 ghost use Rattle.program.specs.Building.{Took, completed, event_of, plain, program_if, working};
@@ -14,21 +14,23 @@ use layout::{Command, PLACES, Place, Table, VACANT};
 use stack::Stack;
 use syntax::Event;
 
-impl<'a> Builder<'a> {
-    // A builder of a program with so many parameters, which keeps its open brackets in the lent places.
-    pub fn new(arity: Arity, brackets: &'a mut [u16]) -> Builder<'a>
+impl<'a, 'b> Builder<'a, 'b> {
+    // A builder of a program with so many parameters, which keeps its open brackets on the lent stack.
+    pub fn new(arity: Arity, opens: &'a mut Stack<'b, u16>) -> Builder<'a, 'b>
         ensures start { working result ≡ blank }
         ensures arity { result.arity ≡ arity }
-        ensures room { room result.opens ≡ length brackets.old }
-        ensures same { result.opens.places.ghost_name ≡ brackets.entry.ghost_name }
+        ensures room { room result.opens.now ≡ room opens.old }
+        ensures same { result.opens.ghost_name ≡ opens.entry.ghost_name }
+        ensures places { result.opens.now.places.ghost_name ≡ opens.old.places.ghost_name }
     {
+        opens.clear();
         Builder {
             places: [VACANT; PLACES],
             used: 1,
             last: 0,
             sequences: 0,
             arity,
-            opens: Stack::new(brackets),
+            opens,
         }
     }
 
@@ -59,6 +61,7 @@ impl<'a> Builder<'a> {
         Ok(())
     }
 
+    // A sequence at the end of the innermost chain, whose own chain is the innermost now.
     fn open(&mut self) -> Result<(), Refusal>
         ensures { Took Event.Open self.old self.new result }
     {
@@ -76,6 +79,7 @@ impl<'a> Builder<'a> {
         Ok(())
     }
 
+    // The innermost chain is a sequence's contents, and the chain around it goes on.
     fn close(&mut self) -> Result<(), Refusal>
         ensures { Took Event.Close self.old self.new result }
     {

@@ -9,7 +9,7 @@ use stack::Stack;
 
 // A program that is being made in the order of its text.
 #[derive(Drop)]
-pub struct Builder<'a> {
+pub struct Builder<'a, 'b> {
     pub(crate) places: [Place; PLACES],
     // the next place that is unused
     pub(crate) used: u16,
@@ -19,6 +19,6 @@ pub struct Builder<'a> {
     pub(crate) sequences: u16,
     pub(crate) arity: Arity,
     // the places of the brackets that are open
-    pub(crate) opens: Stack<'a, u16>,
-    ghost sound: { holds_draft places used last sequences (items opens.places.now opens.len) ≡ true },
+    pub(crate) opens: &'a mut Stack<'b, u16>,
+    ghost sound: { holds_draft places used last sequences (items opens.now.places.now opens.now.len) ≡ true },
 }

@@ -1,4 +1,4 @@
-// What a program shows of itself.
+// How a count becomes an arity, and what an arity and a program show of themselves.
 ghost use Rattle.program.specs.Programs.{Counts, OneProgramOneRecord, ReachesEachPlaceOnce, from, program_of, tree_of};
 ghost use Rattle.layout.specs.Walking.{opened, place_at};
 ghost use Rattle.syntax.specs.Code.{commands, end, parameters_of, sequences, source};

@@ -1,5 +1,5 @@
 // How a walker goes on.
-ghost use Rattle.std.specs.Prelude.{◌≡◌, ◌≤◌, Ok, length};
+ghost use Rattle.std.specs.Prelude.{◌≡◌, ◌≤◌, Ok};
 ghost use Rattle.program.specs.Programs.{tree_of};
 ghost use Rattle.program.specs.Walking.{Ample, inside, left, left_after, next_of};
 ghost use Rattle.stack.specs.Held.{room};
@@ -14,31 +14,34 @@ use layout::Command;
 use stack::Stack;
 use syntax::Event;
 
-impl<'a, 'b> Walker<'a, 'b> {
-    // A walk from the program's first command on, which keeps its unfinished chains in the lent places.
-    pub fn new(program: &'a Program, chains: &'b mut [u16]) -> Walker<'a, 'b>
+impl<'a, 'b, 'c> Walker<'a, 'b, 'c> {
+    // A walk from the program's first command on, which keeps its unfinished chains on the lent stack.
+    pub fn new(program: &'a Program, after: &'b mut Stack<'c, u16>) -> Walker<'a, 'b, 'c>
         ensures all { left result ≡ events (tree_of program.now) }
         ensures over { result.program.now ≡ program.now }
-        ensures room { room result.after ≡ length chains.old }
+        ensures room { room result.after.now ≡ room after.old }
         ensures outside { inside result ≡ 0 }
-        ensures ample { most_commands ≤ length chains.old → Ample result }
-        ensures same { result.after.places.ghost_name ≡ chains.entry.ghost_name }
+        ensures ample { most_commands ≤ room after.old → Ample result }
+        ensures same { result.after.ghost_name ≡ after.entry.ghost_name }
+        ensures places { result.after.now.places.ghost_name ≡ after.old.places.ghost_name }
     {
+        after.clear();
         Walker {
             program,
             at: program.table.places[0].next,
-            after: Stack::new(chains),
+            after,
         }
     }
 
     // What comes next in the text; none at its end.
     pub fn next(&mut self) -> Result<Option<Event>, Refusal>
-        ensures event { result ≡ next_of (left self.old) (inside self.old) (room self.old.after) }
+        ensures event { result ≡ next_of (left self.old) (inside self.old) (room self.old.after.now) }
         ensures rest { left self.new ≡ left_after result (left self.old) }
-        ensures room { room self.new.after ≡ room self.old.after }
+        ensures room { room self.new.after.now ≡ room self.old.after.now }
         ensures ample { Ample self.old → Ample self.new × (result ≡ Ok (head_of (left self.old))) }
         ensures over { self.new.program.now ≡ self.old.program.now }
-        ensures same { self.new.after.places.ghost_name ≡ self.old.after.places.ghost_name }
+        ensures same { self.new.after.ghost_name ≡ self.old.after.ghost_name }
+        ensures places { self.new.after.now.places.ghost_name ≡ self.old.after.now.places.ghost_name }
     {
         let Some(place) = self.program.place(self.at) else {
             let Some(at) = self.after.pop() else {

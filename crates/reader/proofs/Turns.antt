@@ -17,7 +17,7 @@ use Rattle.program.proofs.Offers as offers
 use Rattle.reader.specs.Reads.{Turned}
 
 -- a token that stands for one command more
-pub turned_fed : (b d : Builder) (e : Event) (s : Step) (r : Result (Unit {0}) Refusal) → most_commands ≤ room b.opens → refusal_of e ≡ Crowd → s ≡ fed (feed e (working b)) → Took e b d r → Turned s (working b) (working d) r
+pub turned_fed : (b d : Builder) (e : Event) (s : Step) (r : Result (Unit {0}) Refusal) → most_commands ≤ room b.opens.now → refusal_of e ≡ Crowd → s ≡ fed (feed e (working b)) → Took e b d r → Turned s (working b) (working d) r
 turned_fed b d e s (Ok u) l crowd is took = is ∙ ap fed (offers.taken e b d took)
 turned_fed b d e s (Err x) l crowd is took =
     let n = offers.not_taken e b d x l took in

@@ -12,6 +12,7 @@ ghost use Rattle.reader.specs.Reads.{Exactly, Expected, Headed, ReadAs, Says, Tu
 use codes::Refusal;
 use lexer::{Lexer, Token, command, digits};
 use program::{Arity, Builder, Program};
+use stack::Stack;
 use syntax::{Event, MOST_BYTES, WORKING_PLACES};
 
 // Why a text was not read, and where the token begins that is to blame, if one is.
@@ -57,7 +58,8 @@ pub fn read(text: &[u8], brackets: &mut [u16], into: &mut Program) -> Result<(),
     }
     let mut lexer = Lexer::new(text);
     let arity = header(&mut lexer)?;
-    let program = commands(&mut lexer, arity, brackets)?;
+    let mut opens = Stack::new(brackets);
+    let program = commands(&mut lexer, arity, &mut opens)?;
     *into = program;
     Ok(())
 }
@@ -92,11 +94,11 @@ fn expect<'a, T, F: FnOnce(Token<'a>) -> Option<T>>(
 }
 
 // The commands up to the program's last bracket, which nothing may follow.
-fn commands(lexer: &mut Lexer, arity: Arity, brackets: &mut [u16]) -> Result<Program, ReadError>
-    requires { most_commands ≤ length brackets.old }
+fn commands(lexer: &mut Lexer, arity: Arity, opens: &mut Stack<u16>) -> Result<Program, ReadError>
+    requires { most_commands ≤ room opens.old }
     ensures { Says (text_of lexer.old) (body arity.count (rest lexer.old) blank) result }
 {
-    let mut builder = Builder::new(arity, brackets);
+    let mut builder = Builder::new(arity, opens);
     while let Some(token) = lexer.next() {
         match take(&mut builder, token) {
             Ok(()) => {}
@@ -109,11 +111,11 @@ fn commands(lexer: &mut Lexer, arity: Arity, brackets: &mut [u16]) -> Result<Pro
 
 // What one token does to the builder. It is refused as a bracket where none is open: then it is the program's last.
 fn take(builder: &mut Builder, token: Token) -> Result<(), Refusal>
-    requires { most_commands ≤ room builder.old.opens }
+    requires { most_commands ≤ room builder.old.opens.now }
     ensures turned { Turned (step (working builder.old) (lexeme token.entry)) (working builder.old) (working builder.new) result }
-    ensures room { room builder.new.opens ≡ room builder.old.opens }
+    ensures room { room builder.new.opens.now ≡ room builder.old.opens.now }
     ensures arity { builder.new.arity ≡ builder.old.arity }
-    ensures same { builder.new.opens.places.ghost_name ≡ builder.old.opens.places.ghost_name }
+    ensures same { builder.new.opens.ghost_name ≡ builder.old.opens.ghost_name }
 {
     match token {
         Token::Open => builder.accept(Event::Open),

@@ -12,7 +12,7 @@ invariant-loop-token l =
     (body l.initial.builder.arity.count (rest l.initial.lexer) (working l.initial.builder) ≡ body l.initial.builder.arity.count (rest l.lexer) (working l.builder))
     × (text_of l.lexer ≡ text_of l.initial.lexer)
     × (l.builder.arity ≡ l.initial.builder.arity)
-    × (most_commands ≤ room l.builder.opens)
+    × (most_commands ≤ room l.builder.opens.now)
 
 abbrev pub decreases-loop-token : goal.decreases-loop-token
 decreases-loop-token l = length (rest l.lexer)

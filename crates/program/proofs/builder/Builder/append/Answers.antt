@@ -13,5 +13,5 @@ invariant_of-self c = record { sound = (plain_kept c.args.self.now c.args.comman
 
 pub returns : goal.returns
 returns c =
-    plain-taken c.args.self.now _ c.args.command c.requires (record { rooms = refl; arities = refl; memories = refl }) c.if-at-ge-PLACES.false
+    plain-taken c.args.self.now _ c.args.command c.requires (record { rooms = refl; arities = refl; names = refl; memories = refl }) c.if-at-ge-PLACES.false
     (plain_kept c.args.self.now c.args.command c.put.new.places c.requires c.put.ensures c.if-at-ge-PLACES.false).told

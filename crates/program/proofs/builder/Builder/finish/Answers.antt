@@ -9,7 +9,7 @@ overflow_sub-table c = used_pos c.args.self.now
 
 pub invariant_of-result : goal.invariant_of-result
 invariant_of-result c =
-    let l : length (held c.args.self.now.opens) ≤ 0 = let e = c.len.ensures in let h = c.if-len-gt0.false in omega arith in record {
+    let l : length (held c.args.self.now.opens.now) ≤ 0 = let e = c.len.ensures in let h = c.if-len-gt0.false in omega arith in record {
       whole = (finishes c.args.self.now c.if-self-eq1.first _ l
           (λ h. elim c.if-self-eq1.branch [ then-self-eq1 w ↦ w.first-is | else-self-eq1 w ↦ absurd (w.if-self-eq1.false h) ])
           (λ h. elim c.if-self-eq1.branch [ then-self-eq1 w ↦ absurd (h w.if-self-eq1.true) | else-self-eq1 w ↦ w.first-is ])
@@ -18,7 +18,7 @@ invariant_of-result c =
 
 pub returns : goal.returns
 returns c =
-    let l : length (held c.args.self.now.opens) ≤ 0 = let e = c.len.ensures in let h = c.if-len-gt0.false in omega arith in
+    let l : length (held c.args.self.now.opens.now) ≤ 0 = let e = c.len.ensures in let h = c.if-len-gt0.false in omega arith in
     (finishes c.args.self.now c.if-self-eq1.first _ l
     (λ h. elim c.if-self-eq1.branch [ then-self-eq1 w ↦ w.first-is | else-self-eq1 w ↦ absurd (w.if-self-eq1.false h) ])
     (λ h. elim c.if-self-eq1.branch [ then-self-eq1 w ↦ absurd (h w.if-self-eq1.true) | else-self-eq1 w ↦ w.first-is ])

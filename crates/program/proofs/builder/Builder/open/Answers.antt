@@ -11,7 +11,7 @@ returns-then-at-ge-PLACES c = open_refused c.args.self.now c.if-at-ge-PLACES.tru
 pub returns-then-not-push : goal.returns-then-not-push
 returns-then-not-push c =
     let p = c.push.ensures in
-    open_short c.args.self.now _ c.push.result (record { rooms = p.size; arities = refl; memories = p.same }) c.if-at-ge-PLACES.false p.fits c.if-not-push.true
+    open_short c.args.self.now _ c.push.result (record { rooms = p.size; arities = refl; names = refl; memories = p.same }) c.if-at-ge-PLACES.false p.fits c.if-not-push.true
     (ap (drafted c.args.self.now.places c.args.self.now.used) (p.items ∙ cond-false c.push.result _ _ c.if-not-push.true))
 
 pub put-requires : goal.put-requires
@@ -20,7 +20,7 @@ put-requires c = both_in c.args.self.now c.if-at-ge-PLACES.false
 pub overflow_add-self-2 : goal.overflow_add-self-2
 overflow_add-self-2 c = let s = sequences_in c.args.self.now in record { fits = omega arith }
 
-over : (c : goal.After-put) → held c.push.new.self ≡ c.args.self.now.used ∷ held c.args.self.now.opens
+over : (c : goal.After-put) → held c.push.new.self ≡ c.args.self.now.used ∷ held c.args.self.now.opens.now
 over c = c.push.ensures.items ∙ cond-true c.push.result _ _ c.if-not-push.false
 
 pub invariant_of-self-2 : goal.invariant_of-self-2
@@ -29,6 +29,6 @@ invariant_of-self-2 c = record { sound = (open_kept c.args.self.now c.put.new.pl
 pub returns : goal.returns
 returns c =
     let p = c.push.ensures in
-    open_taken c.args.self.now _ c.push.result (record { rooms = p.size; arities = refl; memories = p.same }) c.if-at-ge-PLACES.false p.fits c.if-not-push.false
+    open_taken c.args.self.now _ c.push.result (record { rooms = p.size; arities = refl; names = refl; memories = p.same }) c.if-at-ge-PLACES.false p.fits c.if-not-push.false
     (open_kept c.args.self.now c.put.new.places (held c.push.new.self) c.put.ensures
     (p.items ∙ cond-true c.push.result _ _ c.if-not-push.false) c.if-at-ge-PLACES.false).told
