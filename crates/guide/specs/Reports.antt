@@ -12,15 +12,19 @@ use Rattle.reader.specs.Reads.{Spot as Blamed}
 use Rattle.guide.specs.declared.report.Spot.{Spot}
 use Rattle.guide.specs.declared.report.Spot.TheVariants.{Nowhere, Token, Argument}
 use Rattle.guide.specs.declared.report.ReportError.{ReportError}
-use Rattle.guide.specs.declared.report.ReportError.TheVariants.{Refused, Failed}
+use Rattle.guide.specs.declared.report.ReportError.TheVariants.{Refused, Memory, NoText}
 
 -- the line of a program's counts, after the line before it
 abbrev pub counts_line : ℕ → ℕ → ℕ → List ℕ
 counts_line k n s = codes "\nparameters " ++ (decimal k ++ (codes ", commands " ++ (decimal n ++ (codes ", sequences " ++ (decimal s ++ codes "\n")))))
 
+-- the same of a program
+abbrev pub counts_of : Source → List ℕ
+counts_of (source k c) = counts_line k (commands c) (sequences c)
+
 -- the program's standard form, and its counts
 abbrev pub accepted_lines : Source → List ℕ
-accepted_lines (source k c) = print (source k c) ++ counts_line k (commands c) (sequences c)
+accepted_lines p = print p ++ counts_of p
 
 -- where that is which is refused, in words: nothing, a token by its line and column, or an argument
 abbrev pub spot_text : Spot → List ℕ
@@ -40,16 +44,28 @@ spot_of text (Some n) = Token (position_after first_place (take n text))
 -- a report that could not be made, and is no refusal
 abbrev pub IsFailure : ReportError → Type 0
 IsFailure (Refused s) = ⊥
-IsFailure (Failed e) = Unit {0}
+IsFailure (Memory e) = Unit {0}
+IsFailure (NoText e) = Unit {0}
+
+-- want of memory for a report
+abbrev pub IsOutOfMemory : ReportError → Type 0
+IsOutOfMemory (Refused s) = ⊥
+IsOutOfMemory (Memory e) = Unit {0}
+IsOutOfMemory (NoText e) = ⊥
+
+-- a program's standard form and counts, unless they could not be told
+abbrev pub Standard : Source → Result (String Global) ReportError → Type 0
+Standard p (Ok s) = string_bytes s ≡ accepted_lines p
+Standard p (Err e) = IsFailure e
 
 -- a report that tells a verdict on a text, unless it could not be made: the program and its counts, or as a refusal the
 -- refusal and where the first wrong token stands
 abbrev pub Told : List ℕ → Verdict → Result (String Global) ReportError → Type 0
-Told text (taken p) (Ok s) = string_bytes s ≡ accepted_lines p
-Told text (taken p) (Err e) = IsFailure e
+Told text (taken p) r = Standard p r
 Told text (refused e ts) (Ok s) = ⊥
 Told text (refused e ts) (Err (Refused s)) = (at : Option ℕ) × (remark : List ℕ) × Blamed text ts at × (string_bytes s ≡ refused_line e (spot_of text at) remark)
-Told text (refused e ts) (Err (Failed x)) = Unit {0}
+Told text (refused e ts) (Err (Memory x)) = Unit {0}
+Told text (refused e ts) (Err (NoText x)) = ⊥
 
 -- the line of a refusal that an error tells
 abbrev pub RefusedLine : List ℕ → ReadError → List ℕ → Type 0

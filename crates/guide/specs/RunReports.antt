@@ -12,11 +12,11 @@ use Rattle.semantics.specs.declared.Run.{Run}
 use Rattle.semantics.specs.Meaning.{Outcome, run}
 use Rattle.guide.specs.declared.arguments.WrongArgument.{WrongArgument}
 use Rattle.guide.specs.declared.arguments.ArgumentsError.{ArgumentsError}
-use Rattle.guide.specs.declared.arguments.ArgumentsError.TheVariants.{Wrong, Memory}
+use Rattle.guide.specs.declared.arguments.ArgumentsError.TheVariants.{Wrong, Memory as NoMemory}
 use Rattle.guide.specs.declared.report.ReportError.{ReportError}
-use Rattle.guide.specs.declared.report.ReportError.TheVariants.{Refused, Failed}
+use Rattle.guide.specs.declared.report.ReportError.TheVariants.{Refused, Memory, NoText}
 use Rattle.guide.specs.declared.report.Spot.TheVariants.{Argument}
-use Rattle.guide.specs.Reports.{refused_line, IsFailure, Told}
+use Rattle.guide.specs.Reports.{refused_line, IsOutOfMemory, Told}
 
 -- 1. arguments
 
@@ -45,7 +45,7 @@ arguments_of ws = arguments_from 1 ws
 -- want of memory
 abbrev pub IsMemory : ArgumentsError → Type 0
 IsMemory (Wrong w) = ⊥
-IsMemory (Memory e) = Unit {0}
+IsMemory (NoMemory e) = Unit {0}
 
 -- a call that collects such numbers, or tells the first wrong word, unless there is no memory
 abbrev pub Collects : Result (List ℤ) WrongArgument → Result (Vec ℤ Global) ArgumentsError → Type 0
@@ -53,7 +53,7 @@ Collects (Ok zs) (Ok v) = vec_items v ≡ zs
 Collects (Ok zs) (Err e) = IsMemory e
 Collects (Err w) (Ok v) = ⊥
 Collects (Err w) (Err (Wrong x)) = x ≡ w
-Collects (Err w) (Err (Memory e)) = Unit {0}
+Collects (Err w) (Err (NoMemory e)) = Unit {0}
 
 -- a wrong argument, and a remark
 abbrev pub wrong_line : WrongArgument → List ℕ → List ℕ
@@ -79,10 +79,11 @@ run_line r = outcome_line r.outcome r.spent.steps
 -- a report of a program on its arguments, unless it could not be made: what its run comes to, or as a refusal the wrong argument
 abbrev pub Ran : Source → Result (List ℤ) WrongArgument → Result (String Global) ReportError → Type 0
 Ran p (Ok ks) (Ok s) = string_bytes s ≡ run_line (run p ks)
-Ran p (Ok ks) (Err e) = IsFailure e
+Ran p (Ok ks) (Err e) = IsOutOfMemory e
 Ran p (Err w) (Ok s) = ⊥
 Ran p (Err w) (Err (Refused s)) = (remark : List ℕ) × (string_bytes s ≡ wrong_line w remark)
-Ran p (Err w) (Err (Failed x)) = Unit {0}
+Ran p (Err w) (Err (Memory x)) = Unit {0}
+Ran p (Err w) (Err (NoText x)) = ⊥
 
 -- a report of a text on some words: the text's refusal, which comes first, or what its program comes to on the numbers that
 -- the words are

@@ -25,7 +25,7 @@ pub enum ArgumentsError {
     Memory(AllocError),
 }
 
-// No memory was to be had for a number.
+// An allocation that failed leaves no numbers.
 impl<T: Drop> From<AllocFailed<T>> for ArgumentsError {
     ghost from_gives = { λ _ e. IsMemory e };
 
@@ -55,10 +55,9 @@ pub(crate) fn arguments(heap: Global, words: &[String]) -> Result<Vec<i32>, Argu
 fn argument(word: &[u8]) -> Result<i32, Refusal>
     ensures { result ≡ argument_of (meaning word.now) }
 {
-    match command(word) {
-        Ok(Event::Numeral(number)) => Ok(number),
-        Ok(_) => Err(Refusal::Word),
-        Err(refusal) => Err(refusal),
+    match command(word)? {
+        Event::Numeral(number) => Ok(number),
+        _ => Err(Refusal::Word),
     }
 }
 

@@ -86,6 +86,7 @@ fn tell(rt: &HostRuntime, report: Result<String, ReportError>) -> anyhow::Result
             rt.print(lines.as_str())?;
             Err(anyhow!("refused"))
         }
-        Err(ReportError::Failed(error)) => Err(error),
+        Err(ReportError::Memory(error)) => Err(error.into()),
+        Err(ReportError::NoText(error)) => Err(error.into()),
     }
 }

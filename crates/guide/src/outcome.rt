@@ -33,9 +33,9 @@ fn program_report(heap: Global, program: &Program, words: &[String]) -> Result<S
 {
     match arguments(heap, words) {
         Ok(numbers) => Ok(RunLine(run_on(program, numbers.as_slice())).to_string(heap)?),
-        Err(ArgumentsError::Wrong(wrong)) => Err(ReportError::Refused(wrong_argument(
-            heap, wrong,
-        )?)),
+        Err(ArgumentsError::Wrong(wrong)) => {
+            Err(ReportError::Refused(wrong_argument(heap, wrong)?))
+        }
         Err(ArgumentsError::Memory(error)) => Err(error.into()),
     }
 }
@@ -87,7 +87,8 @@ mod tests {
         assert!(rt; report.is_ok() == accepted, "{}", lines);
         let told = match report {
             Ok(told) | Err(ReportError::Refused(told)) => told,
-            Err(ReportError::Failed(error)) => return Err(error.into()),
+            Err(ReportError::Memory(error)) => return Err(error.into()),
+            Err(ReportError::NoText(error)) => return Err(error.into()),
         };
         assert!(rt; told.as_str() == lines, "{}", lines);
         Ok(())

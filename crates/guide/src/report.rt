@@ -1,50 +1,42 @@
 // What is said of a text: the program in its standard form, or the refusal and where the wrong token stands.
-ghost use Rattle.guide.specs.Reports.{IsFailure, RefusedLine, Told, accepted_lines, counts_line, refused_line, spot_of, spot_text};
+ghost use Rattle.guide.specs.Reports.{IsOutOfMemory, RefusedLine, Standard, Told, counts_of, refused_line, spot_of, spot_text};
 ghost use Rattle.program.specs.Programs.{program_of};
 ghost use Rattle.std.specs.Prelude.{◌≡◌, ◌++◌, IfOk, Some, string_bytes};
 ghost use Rattle.grammar.specs.Reading.{parse};
 
-use anyhow::anyhow;
 use codes::Refusal;
 use printer::print;
 use program::Program;
 use reader::{Position, ReadError, locate, read};
 use std::alloc::{AllocError, Global};
 use std::fmt;
-use std::str::from_utf8;
+use std::str::{Utf8Error, from_utf8};
 use syntax::{MOST_BYTES, WORKING_PLACES};
 
 // What is wrong with a numeral out of range, in words.
 pub(crate) const OUT_OF_RANGE: &str = "a numeral is from -2147483648 to 2147483647";
 
-// Why what was asked for is not told.
+// Why a report does not tell what was asked for.
 #[derive(Drop)]
 pub enum ReportError {
     // it is refused, and these lines say so
     Refused(String),
-    // nothing can be told, mostly for want of memory
-    Failed(anyhow::Error),
+    // there is no memory for the report
+    Memory(AllocError),
+    // what was printed is no text that can be shown
+    NoText(Utf8Error),
 }
 
-// Want of memory tells nothing.
+// An allocation that failed leaves no report.
 impl From<AllocError> for ReportError {
-    ghost from_gives = { λ _ e. IsFailure e };
+    ghost from_gives = { λ _ e. IsOutOfMemory e };
 
     fn from(error: AllocError) -> ReportError {
-        ReportError::Failed(error.into())
+        ReportError::Memory(error)
     }
 }
 
-// Nor does any other trouble.
-impl From<anyhow::Error> for ReportError {
-    ghost from_gives = { λ _ e. IsFailure e };
-
-    fn from(error: anyhow::Error) -> ReportError {
-        ReportError::Failed(error)
-    }
-}
-
-// Where that is which is refused.
+// What a refusal is about.
 #[derive(Clone, Copy)]
 pub enum Spot {
     // nothing is to blame
@@ -75,40 +67,29 @@ pub(crate) fn read_report(heap: Global, text: &[u8]) -> Result<String, ReportErr
     let mut program = Program::new();
     let mut brackets = [0u16; WORKING_PLACES];
     match read(text, &mut brackets, &mut program) {
-        Ok(()) => Ok(standard_form(heap, &program)?),
+        Ok(()) => standard_form(heap, &program),
         Err(error) => Err(ReportError::Refused(refusal(heap, text, error)?)),
     }
 }
 
-// The program's text, and a line of its counts.
-fn standard_form(heap: Global, program: &Program) -> anyhow::Result<String>
-    ensures { IfOk result (λ s. string_bytes s ≡ accepted_lines (program_of program.now)) }
+// The program's text, and a line of its counts. The lent memory is enough for every program.
+fn standard_form(heap: Global, program: &Program) -> Result<String, ReportError>
+    ensures { Standard (program_of program.now) result }
 {
     let mut chains = [0u16; WORKING_PLACES];
     let mut out = [0u8; MOST_BYTES];
-    let Ok(len) = print(program, &mut chains, &mut out) else {
-        return Err(anyhow!("the print does not fit"));
-    };
-    let text = from_utf8(&out[0..len])?;
-    Ok(with_counts(
-        heap,
-        text,
-        program.parameters(),
-        program.commands(),
-        program.sequences(),
-    )?)
+    let len = print(program, &mut chains, &mut out).unwrap();
+    let text = from_utf8(&out[..len]).map_err(ReportError::NoText)?;
+    Ok(with_counts(heap, text, program)?)
 }
 
-// A line, and a line of counts behind it.
-fn with_counts(
-    heap: Global,
-    line: &str,
-    parameters: u8,
-    commands: u16,
-    sequences: u16,
-) -> Result<String, AllocError>
-    ensures { IfOk result (λ s. string_bytes s ≡ line.now ++ counts_line parameters commands sequences) }
+// A line, and a line of the program's counts behind it.
+fn with_counts(heap: Global, line: &str, program: &Program) -> Result<String, AllocError>
+    ensures { IfOk result (λ s. string_bytes s ≡ line.now ++ counts_of (program_of program.now)) }
 {
+    let parameters = program.parameters();
+    let commands = program.commands();
+    let sequences = program.sequences();
     format!(in heap;
         "{line}\nparameters {parameters}, commands {commands}, sequences {sequences}\n"
     )
@@ -172,7 +153,8 @@ mod tests {
     fn says(rt: &(impl Abort + AllocGlobal), text: &[u8], lines: &str) -> Result<(), Fail> {
         let told = match read_report(rt.alloc(), text) {
             Ok(told) | Err(ReportError::Refused(told)) => told,
-            Err(ReportError::Failed(error)) => return Err(error.into()),
+            Err(ReportError::Memory(error)) => return Err(error.into()),
+            Err(ReportError::NoText(error)) => return Err(error.into()),
         };
         assert!(rt; told.as_str() == lines, "{}", lines);
         Ok(())

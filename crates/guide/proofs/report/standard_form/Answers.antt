@@ -1,18 +1,16 @@
-use Rattle.std.proofs.Common.{◌≡◌, ℕ, ◌-◌, List, ◌++◌, take, ap, ◌∙◌, arith}
-use Rattle.syntax.specs.Code.{commands}
+use Rattle.std.proofs.Common.{◌≤◌, length, arith}
+use Rattle.syntax.specs.Bounds.{most_bytes}
+use Rattle.layout.proofs.Whole.{bounded}
+use Rattle.layout.specs.Tables.{source_of}
 use Rattle.grammar.specs.Printing.{print}
-use Rattle.program.specs.Programs.{program_of, tree_of}
-use Rattle.guide.specs.Reports.{counts_line}
-use Rattle.guide.proofs.Fronts.{answered, front}
+use Rattle.grammar.proofs.Printing.{print_is_short}
+use Rattle.program.specs.Programs.{program_of}
+use Rattle.guide.proofs.Fronts.{printed}
 use Rattle.guide.proofs.report.standard_form.Goals as goal
 
-pub returns : goal.returns
-returns c =
-    let n = answered 264 4096 c.in-Ok.len (print (program_of c.args.program.now)) c.in-Ok.ensures.answer in
-    let f : take c.in-Ok.len c.print.new.out ≡ print (program_of c.args.program.now) = front (print (program_of c.args.program.now)) _ c.print.new.out c.in-Ok.len n c.in-Ok.ensures.bytes in
-    let z : c.in-Ok.len - 0 ≡ c.in-Ok.len = omega arith in
-    c.in_ok-with_counts.ensures
-    ∙ ap (λ (x : List ℕ). x ++ counts_line c.parameters.result c.commands.result c.sequences.result) (c.in_ok-text.ensures.cases.0 ∙ ap (λ (m : ℕ). take m c.print.new.out) z ∙ f)
-    ∙ ap (λ (k : ℕ). print (program_of c.args.program.now) ++ counts_line k c.commands.result c.sequences.result) c.parameters.ensures
-    ∙ ap (λ (k : ℕ). print (program_of c.args.program.now) ++ counts_line c.args.program.now.table.parameters k c.sequences.result) c.commands.ensures
-    ∙ ap (λ (k : ℕ). print (program_of c.args.program.now) ++ counts_line c.args.program.now.table.parameters (commands (tree_of c.args.program.now)) k) c.sequences.ensures
+-- every print is short enough
+pub unwrap-len-requires : goal.unwrap-len-requires
+unwrap-len-requires c =
+    let t = c.args.program.now.table in
+    let short : length (print (program_of c.args.program.now)) ≤ most_bytes = print_is_short (source_of t) (bounded t c.args.program.now.whole) in
+    printed 264 4096 (print (program_of c.args.program.now)) c.print.result c.print.ensures.answer (omega arith) (omega arith)
