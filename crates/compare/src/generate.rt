@@ -20,7 +20,7 @@ const OPERATORS: [Word; 8] = [
     Word::Gt,
 ];
 
-// Those of them that never fault on numbers and are no comparisons.
+// The operators that never fault on numbers and are no comparisons.
 const FAULTLESS: [Word; 3] = [Word::Add, Word::Sub, Word::Mul];
 
 // What makes programs, arguments and texts: where memory comes from, and a source of numbers.

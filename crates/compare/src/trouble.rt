@@ -38,7 +38,7 @@ impl fmt::Display for Trouble {
     }
 }
 
-// Why a reading, a run or a comparison does not go on: it ends with something to say, or there is no answer at all.
+// Why a reading, a run or a comparison stops: there is something to say against it, or there is no answer at all.
 #[derive(Drop)]
 pub(crate) enum Stop<E> {
     Said(E),
