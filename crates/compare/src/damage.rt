@@ -92,7 +92,7 @@ impl Generator {
         let commands = tokens
             .iter()
             .skip(3)
-            .filter(|token| !matches!(token, Token::Close))
+            .filter(|token| **token != Token::Close)
             .count();
         let goal = MOST_COMMANDS + self.dice.below(4);
         let _ = tokens.pop();

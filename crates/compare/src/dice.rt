@@ -3,13 +3,13 @@ ghost use Rattle.std.specs.Prelude.{◌<◌, IfSome, length};
 
 // Numbers at the edges of the range, and some whose sums or products leave it.
 const EDGES: [i32; 12] = [
-    -2_147_483_648,
-    2_147_483_647,
+    i32::MIN,
+    i32::MAX,
     -1,
     0,
     1,
-    -2_147_483_647,
-    2_147_483_646,
+    i32::MIN + 1,
+    i32::MAX - 1,
     65_536,
     -65_536,
     46_341,
@@ -37,13 +37,11 @@ impl Dice {
         b ^ (b >> 31)
     }
 
-    // A number below `n`; 0 where there is none.
+    // A number below `n`.
     pub(crate) fn below(&mut self, n: usize) -> usize
-        ensures { 0 < n → result < n }
+        requires { 0 < n }
+        ensures { result < n }
     {
-        if n == 0 {
-            return 0;
-        }
         (self.roll() % n as u64) as usize
     }
 
@@ -64,9 +62,9 @@ impl Dice {
         items[self.below(items.len())]
     }
 
-    // Yes once in `n` times; never where `n` is 0.
+    // Yes once in `n` times.
     pub(crate) fn once_in(&mut self, n: usize) -> bool {
-        n > 0 && self.below(n) == 0
+        self.place_in(n) == Some(0)
     }
 
     // Yes `n` times in a hundred.

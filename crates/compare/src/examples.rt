@@ -1,10 +1,10 @@
 // Small programs with known values.
-use crate::answer::{Answer, Ending, FaultNumber, Verdict};
+use crate::answer::{Answer, FaultNumber, Verdict};
 use crate::verdicts::Case;
 
-// A text, its arguments, how the run ends, and how many steps it takes.
+// A text, its arguments, the number that the run gives or the number of its fault, and how many steps it takes.
 #[derive(Clone, Copy)]
-pub(crate) struct Example(&'static [u8], &'static [i32], Ending, u32);
+pub(crate) struct Example(&'static [u8], &'static [i32], Result<i64, u8>, u32);
 
 impl Example {
     // The text and the arguments.
@@ -18,7 +18,7 @@ impl Example {
     // What is known of them.
     pub(crate) fn verdict(self) -> Verdict {
         Ok(Answer {
-            ending: self.2,
+            ending: self.2.map_err(FaultNumber),
             steps: self.3,
         })
     }
@@ -29,14 +29,14 @@ pub(crate) const EXAMPLES: [Example; 73] = [
     Example(b"(postfix 0 1 2 3)", &[], Ok(3), 3),
     Example(b"(postfix 0 1 2 3 pop)", &[], Ok(2), 4),
     Example(b"(postfix 0 1 2 swap 3 pop)", &[], Ok(1), 5),
-    Example(b"(postfix 0 1 swap)", &[], Err(FaultNumber(12)), 2),
-    Example(b"(postfix 0 1 pop pop)", &[], Err(FaultNumber(12)), 3),
-    Example(b"(postfix 0 1 pop)", &[], Err(FaultNumber(17)), 2),
+    Example(b"(postfix 0 1 swap)", &[], Err(12), 2),
+    Example(b"(postfix 0 1 pop pop)", &[], Err(12), 3),
+    Example(b"(postfix 0 1 pop)", &[], Err(17), 2),
     Example(b"(postfix 2)", &[3, 4], Ok(3), 0),
     Example(b"(postfix 2 swap)", &[3, 4], Ok(4), 1),
     Example(b"(postfix 3 pop swap)", &[3, 4, 5], Ok(5), 2),
-    Example(b"(postfix 2 swap)", &[3], Err(FaultNumber(11)), 0),
-    Example(b"(postfix 1 swap)", &[3], Err(FaultNumber(12)), 1),
+    Example(b"(postfix 2 swap)", &[3], Err(11), 0),
+    Example(b"(postfix 1 swap)", &[3], Err(12), 1),
     Example(b"(postfix 2 3 sub swap pop)", &[7, 8], Ok(4), 4),
     Example(b"(postfix 0 4 7 sub)", &[], Ok(-3), 3),
     Example(b"(postfix 1 4 sub)", &[3], Ok(-1), 2),
@@ -60,17 +60,17 @@ pub(crate) const EXAMPLES: [Example; 73] = [
     Example(b"(postfix 1 4 gt)", &[4], Ok(0), 2),
     Example(b"(postfix 1 4 eq)", &[4], Ok(1), 2),
     Example(b"(postfix 1 4 eq)", &[5], Ok(0), 2),
-    Example(b"(postfix 1 4 mul add)", &[3], Err(FaultNumber(12)), 3),
-    Example(b"(postfix 2 4 sub div)", &[4, 5], Err(FaultNumber(15)), 3),
+    Example(b"(postfix 1 4 mul add)", &[3], Err(12), 3),
+    Example(b"(postfix 2 4 sub div)", &[4, 5], Err(15), 3),
     Example(b"(postfix 1 1 add)", &[2147483647], Ok(-2147483648), 2),
     Example(b"(postfix 2 div)", &[-1, -2147483648], Ok(-2147483648), 1),
     Example(b"(postfix 2 rem)", &[-1, -2147483648], Ok(0), 1),
     Example(b"(postfix 2 1 nget)", &[4, 5], Ok(4), 2),
     Example(b"(postfix 2 2 nget)", &[4, 5], Ok(5), 2),
-    Example(b"(postfix 2 3 nget)", &[4, 5], Err(FaultNumber(16)), 2),
-    Example(b"(postfix 2 0 nget)", &[4, 5], Err(FaultNumber(16)), 2),
-    Example(b"(postfix 1 2 nget)", &[5], Err(FaultNumber(16)), 2),
-    Example(b"(postfix 1 (2 mul) 1 nget)", &[3], Err(FaultNumber(13)), 3),
+    Example(b"(postfix 2 3 nget)", &[4, 5], Err(16), 2),
+    Example(b"(postfix 2 0 nget)", &[4, 5], Err(16), 2),
+    Example(b"(postfix 1 2 nget)", &[5], Err(16), 2),
+    Example(b"(postfix 1 (2 mul) 1 nget)", &[3], Err(13), 3),
     Example(b"(postfix 1 (2 mul) 2 nget)", &[3], Ok(3), 3),
     Example(b"(postfix 1 1 nget mul)", &[5], Ok(25), 3),
     Example(
@@ -87,9 +87,9 @@ pub(crate) const EXAMPLES: [Example; 73] = [
         Ok(-7),
         10,
     ),
-    Example(b"(postfix 0 (2 mul))", &[], Err(FaultNumber(18)), 1),
-    Example(b"(postfix 0 3 (2 mul) gt)", &[], Err(FaultNumber(13)), 3),
-    Example(b"(postfix 0 3 exec)", &[], Err(FaultNumber(14)), 2),
+    Example(b"(postfix 0 (2 mul))", &[], Err(18), 1),
+    Example(b"(postfix 0 3 (2 mul) gt)", &[], Err(13), 3),
+    Example(b"(postfix 0 3 exec)", &[], Err(14), 2),
     Example(
         b"(postfix 1 ((3 nget swap exec) (2 mul swap exec) swap) (5 sub) swap exec exec)",
         &[7],
@@ -109,7 +109,7 @@ pub(crate) const EXAMPLES: [Example; 73] = [
     Example(b"(postfix 1 2 3 sel)", &[0], Ok(3), 3),
     Example(b"(postfix 1 2 3 sel)", &[17], Ok(2), 3),
     Example(b"(postfix 1 4 5 sel)", &[0], Ok(5), 3),
-    Example(b"(postfix 0 (2 mul) 3 4 sel)", &[], Err(FaultNumber(13)), 4),
+    Example(b"(postfix 0 (2 mul) 3 4 sel)", &[], Err(13), 4),
     Example(
         b"(postfix 4 lt (add) (mul) sel exec)",
         &[3, 4, 5, 6],
@@ -140,37 +140,17 @@ pub(crate) const EXAMPLES: [Example; 73] = [
         Ok(-19),
         9,
     ),
-    Example(
-        b"(postfix 0 (5 (2 mul) exec) 3 swap)",
-        &[],
-        Err(FaultNumber(18)),
-        3,
-    ),
-    Example(b"(postfix 0 (() exec) exec)", &[], Err(FaultNumber(17)), 4),
-    Example(
-        b"(postfix 0 2 3 1 add mul sel)",
-        &[],
-        Err(FaultNumber(12)),
-        6,
-    ),
-    Example(
-        b"(postfix 0 2 3 1 (add) (mul) sel)",
-        &[],
-        Err(FaultNumber(18)),
-        6,
-    ),
+    Example(b"(postfix 0 (5 (2 mul) exec) 3 swap)", &[], Err(18), 3),
+    Example(b"(postfix 0 (() exec) exec)", &[], Err(17), 4),
+    Example(b"(postfix 0 2 3 1 add mul sel)", &[], Err(12), 6),
+    Example(b"(postfix 0 2 3 1 (add) (mul) sel)", &[], Err(18), 6),
     Example(b"(postfix 0 2 3 1 (add) (mul) sel exec)", &[], Ok(5), 8),
-    Example(
-        b"(postfix 0 0 (2 3 add) 4 sel exec)",
-        &[],
-        Err(FaultNumber(14)),
-        5,
-    ),
+    Example(b"(postfix 0 0 (2 3 add) 4 sel exec)", &[], Err(14), 5),
     Example(b"(postfix 0 1 (2 3 add) 4 sel exec)", &[], Ok(5), 8),
     Example(
         b"(postfix 0 (5 6 lt) (2 3 add) 4 sel exec)",
         &[],
-        Err(FaultNumber(13)),
+        Err(13),
         4,
     ),
     Example(

@@ -20,8 +20,8 @@ const OPERATORS: [Word; 8] = [
     Word::Gt,
 ];
 
-// How many of them, from the first on, never fault on numbers and are no comparisons.
-const FAULTLESS: usize = 3;
+// The operators that never fault on numbers and are no comparisons.
+const FAULTLESS: [Word; 3] = [Word::Add, Word::Sub, Word::Mul];
 
 // What makes programs, arguments and texts: where memory comes from, and a source of numbers.
 #[derive(Drop)]
@@ -109,9 +109,10 @@ impl<'a> Maker<'a> {
     // The whole program.
     fn make(mut self) -> Result<Source, AllocError> {
         for _ in 0..MOST_COMMANDS {
-            if self.left > 0 {
-                self.turn()?;
+            if self.left == 0 {
+                break;
             }
+            self.turn()?;
         }
         self.left = self
             .left
@@ -180,7 +181,7 @@ impl<'a> Maker<'a> {
                 }
                 [.., Kind::Number, Kind::Number] if self.plan.finish == Finish::Folded => {
                     self.change(2, 1)?;
-                    self.put_one_of(&OPERATORS[..FAULTLESS])?;
+                    self.put_one_of(&FAULTLESS)?;
                 }
                 [.., Kind::Number] => return Ok(()),
             }
@@ -299,13 +300,10 @@ impl<'a> Maker<'a> {
         let Some(below) = self.dice.place_in(self.kinds.len()) else {
             return Ok(false);
         };
-        let Ok(index) = i64::try_from(below.saturating_add(1)) else {
-            return Ok(false);
-        };
         if self.left < 2 || !self.has_numbers(below, 1) {
             return Ok(false);
         }
-        self.push_number(index)?;
+        self.push_number(below as i64 + 1)?;
         self.put(Piece::Word(Word::Nget))?;
         Ok(true)
     }
@@ -315,7 +313,7 @@ impl<'a> Maker<'a> {
         let index = if self.dice.once_in(2) {
             0
         } else {
-            i64::try_from(self.kinds.len().saturating_add(1)).unwrap_or(0)
+            (self.kinds.len() as i64).saturating_add(1)
         };
         self.push_number(index)?;
         if self.left > 0 {

@@ -24,6 +24,7 @@ use std::env;
 use std::process::ExitCode;
 use tally::Tally;
 use trial::{Failure, compare_examples, compare_generated};
+use trouble::Stop;
 
 // How the program is called.
 const USAGE: &str = "usage: compare [COUNT [SEED]]";
@@ -50,11 +51,11 @@ fn compare(rt: &HostRuntime) -> anyhow::Result<()> {
     };
     let tally = match settings.compare_all(rt.alloc()) {
         Ok(tally) => tally,
-        Err(Failure::Differs(difference)) => {
+        Err(Stop::Said(difference)) => {
             println!(rt; "{difference}")?;
             bail!("a difference");
         }
-        Err(Failure::Trouble(trouble)) => {
+        Err(Stop::Trouble(trouble)) => {
             eprintln!(rt; "{trouble}")?;
             bail!("no comparison");
         }
@@ -98,8 +99,5 @@ impl Settings {
 
 // The number that a word says, or another one where there is no word.
 fn number_or(word: Option<String>, otherwise: u64) -> Option<u64> {
-    match word {
-        Some(word) => word.as_str().parse::<u64>().ok(),
-        None => Some(otherwise),
-    }
+    word.map_or(Some(otherwise), |word| word.as_str().parse::<u64>().ok())
 }

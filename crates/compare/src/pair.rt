@@ -5,7 +5,7 @@ ghost use Rattle.std.specs.Prelude.{pos, negsuc, ◌≤ℤ◌};
 const NUMBERS: i64 = 4_294_967_296;
 
 // The first number above the range.
-const ABOVE: i64 = 2_147_483_648;
+const ABOVE: i64 = NUMBERS / 2;
 
 // The two sides of an operator.
 #[derive(Clone, Copy)]

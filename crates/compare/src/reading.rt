@@ -6,10 +6,10 @@ use std::alloc::{AllocError, Global};
 use std::mem;
 
 // The largest number.
-const LARGEST: u64 = 2_147_483_647;
+const LARGEST: u64 = i32::MAX as u64;
 
 // A token.
-#[derive(Clone, Drop)]
+#[derive(Clone, PartialEq, Drop)]
 pub(crate) enum Token {
     Open,
     Close,
@@ -124,15 +124,14 @@ fn head(tokens: &[Token]) -> Option<u8> {
 fn body(heap: Global, tokens: &[Token]) -> Result<Vec<Piece>, Stop<Objection>> {
     let mut pieces = Vec::new(heap);
     let mut depth = 1usize;
-    let mut commands = 0usize;
+    let mut left = MOST_COMMANDS;
     for token in tokens.iter().skip(3) {
         if depth == 0 {
             return Err(Objection::Unbalanced.into());
         }
         let piece = Piece::try_from(token)?;
-        commands = commands.saturating_add(usize::from(piece.is_command()));
-        if commands > MOST_COMMANDS {
-            return Err(Objection::TooMany.into());
+        if piece.is_command() {
+            left = left.checked_sub(1).ok_or(Objection::TooMany)?;
         }
         match piece {
             Piece::Open => depth = depth.saturating_add(1),
@@ -154,15 +153,14 @@ impl TryFrom<&Token> for Piece {
     type Error = Objection;
 
     fn try_from(token: &Token) -> Result<Piece, Objection> {
-        let letters = match token {
-            Token::Open => return Ok(Piece::Open),
-            Token::Close => return Ok(Piece::Close),
-            Token::Word(letters) => letters.as_slice(),
-        };
-        match Word::spelled(letters) {
-            Some(word) => Ok(Piece::Word(word)),
-            None => Ok(Piece::Numeral(numeral(letters)?)),
-        }
+        Ok(match token {
+            Token::Open => Piece::Open,
+            Token::Close => Piece::Close,
+            Token::Word(letters) => match Word::spelled(letters.as_slice()) {
+                Some(word) => Piece::Word(word),
+                None => Piece::Numeral(numeral(letters.as_slice())?),
+            },
+        })
     }
 }
 

@@ -20,7 +20,7 @@ impl<const FIRST: u8, const N: usize> Counts<FIRST, N> {
         if let Some(place) = number.checked_sub(FIRST)
             && let Some(count) = self.counts.get_mut(usize::from(place))
         {
-            *count = count.saturating_add(1);
+            add_one(count);
         }
     }
 

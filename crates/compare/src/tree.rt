@@ -13,7 +13,7 @@ pub(crate) const MOST_PARAMETERS: u8 = 8;
 pub(crate) const MOST_BYTES: usize = 4_096;
 
 // A name.
-#[derive(Clone, Copy)]
+#[derive(Clone, Copy, PartialEq)]
 pub(crate) enum Word {
     Add,
     Div,
@@ -74,7 +74,7 @@ impl Word {
 }
 
 // A piece of a program's text.
-#[derive(Clone, Copy)]
+#[derive(Clone, Copy, PartialEq)]
 pub(crate) enum Piece {
     Numeral(i64),
     Word(Word),
@@ -85,7 +85,7 @@ pub(crate) enum Piece {
 impl Piece {
     // Whether a command begins here.
     pub(crate) fn is_command(&self) -> bool {
-        !matches!(self, Piece::Close)
+        *self != Piece::Close
     }
 }
 

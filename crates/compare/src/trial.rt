@@ -2,10 +2,11 @@
 use crate::answer::{Shown, Verdict};
 use crate::examples::EXAMPLES;
 use crate::generate::Generator;
+use crate::second::second_answer;
 use crate::tally::Tally;
-use crate::trouble::Trouble;
+use crate::trouble::Stop;
 use crate::verdicts::Case;
-use std::alloc::{AllocError, Global};
+use std::alloc::Global;
 use std::fmt;
 
 // Where the verdict comes from that the toolkit's is held to.
@@ -41,25 +42,7 @@ pub(crate) struct Difference {
 }
 
 // Why the comparisons did not come to their end.
-#[derive(Drop)]
-pub(crate) enum Failure {
-    Differs(Difference),
-    Trouble(Trouble),
-}
-
-// Trouble ends the comparisons.
-impl From<Trouble> for Failure {
-    fn from(trouble: Trouble) -> Failure {
-        Failure::Trouble(trouble)
-    }
-}
-
-// So does want of memory.
-impl From<AllocError> for Failure {
-    fn from(e: AllocError) -> Failure {
-        Failure::Trouble(e.into())
-    }
-}
+pub(crate) type Failure = Stop<Difference>;
 
 // The text, the arguments and both answers. Bytes that do not print are shown by their numbers.
 impl fmt::Display for Difference {
@@ -98,12 +81,19 @@ impl<'a> Trial<'a> {
         }
     }
 
+    // Puts a text and arguments to both sides, and sees whether they say the same.
+    fn agreed(heap: Global, text: &'a [u8], arguments: &'a [i32]) -> Result<Trial<'a>, Failure> {
+        let trial = Trial::new(heap, Case { text, arguments });
+        trial.agree_with_second()?;
+        Ok(trial)
+    }
+
     // Sees whether what is said elsewhere is what the toolkit says.
     fn agree(&self, origin: Origin, other: Verdict) -> Result<(), Failure> {
         if self.toolkit == other {
             return Ok(());
         }
-        Err(Failure::Differs(Difference {
+        Err(Stop::Said(Difference {
             text: Vec::from_slice(self.heap, self.case.text)?,
             arguments: Vec::from_slice(self.heap, self.case.arguments)?,
             toolkit: self.toolkit,
@@ -141,21 +131,12 @@ pub(crate) fn compare_generated(
     let arguments = arguments.as_slice();
     let tokens = generator.tokens(&source)?;
     let text = generator.program_text(tokens.as_slice())?;
-    let case = Case {
-        text: text.as_slice(),
-        arguments,
-    };
-    let trial = Trial::new(heap, case);
-    trial.agree_with_second()?;
-    trial.agree(Origin::Tree, case.source_verdict(heap, &source)?)?;
+    let trial = Trial::agreed(heap, text.as_slice(), arguments)?;
+    let answer = second_answer(heap, &source, arguments)?;
+    trial.agree(Origin::Tree, Ok(answer))?;
     tally.count_program(source.commands(), trial.toolkit);
     let text = generator.damaged(tokens)?;
-    let case = Case {
-        text: text.as_slice(),
-        arguments,
-    };
-    let trial = Trial::new(heap, case);
-    trial.agree_with_second()?;
+    let trial = Trial::agreed(heap, text.as_slice(), arguments)?;
     tally.count_text(trial.toolkit);
     Ok(())
 }

@@ -38,28 +38,28 @@ impl fmt::Display for Trouble {
     }
 }
 
-// Why a reading or a run does not go on: something is said against the text or the program, or there is no answer at all.
-#[derive(Clone, Copy)]
+// Why a reading, a run or a comparison stops: there is something to say against it, or there is no answer at all.
+#[derive(Drop)]
 pub(crate) enum Stop<E> {
     Said(E),
     Trouble(Trouble),
 }
 
-// Trouble in a part of it stops the whole.
+// Trouble in a part stops the whole.
 impl<E> From<Trouble> for Stop<E> {
     fn from(trouble: Trouble) -> Stop<E> {
         Stop::Trouble(trouble)
     }
 }
 
-// So does want of memory.
+// A lack of memory stops the whole.
 impl<E> From<AllocError> for Stop<E> {
     fn from(e: AllocError) -> Stop<E> {
         Stop::Trouble(e.into())
     }
 }
 
-// So does a value for which there is no memory.
+// A value for which there is no memory stops the whole.
 impl<T: Drop, E> From<AllocFailed<T>> for Stop<E> {
     fn from(e: AllocFailed<T>) -> Stop<E> {
         Stop::Trouble(e.into())

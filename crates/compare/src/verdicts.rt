@@ -2,7 +2,6 @@
 use crate::answer::{Answer, FaultNumber, RefusalNumber, Verdict};
 use crate::reading::second_reading;
 use crate::second::second_answer;
-use crate::tree::Source;
 use crate::trouble::{Trouble, answer_of};
 use codes::{Fault, Refusal};
 use interpreter::run;
@@ -49,14 +48,9 @@ impl Case<'_> {
 
     // What the second reader says, and the second interpreter of a program that it read.
     pub(crate) fn second_verdict(self, heap: Global) -> Result<Verdict, Trouble> {
-        match answer_of(second_reading(heap, self.text))? {
-            Ok(source) => self.source_verdict(heap, &source),
-            Err(objection) => Ok(Err(objection.into())),
-        }
-    }
-
-    // What the second interpreter says of a program on the arguments.
-    pub(crate) fn source_verdict(self, heap: Global, source: &Source) -> Result<Verdict, Trouble> {
-        Ok(Ok(second_answer(heap, source, self.arguments)?))
+        Ok(match answer_of(second_reading(heap, self.text))? {
+            Ok(source) => Ok(second_answer(heap, &source, self.arguments)?),
+            Err(objection) => Err(objection.into()),
+        })
     }
 }

@@ -1,8 +1,9 @@
 // Texts of many commands and bytes, and lent memory of one place less than is needed.
-use crate::texts::repeated;
+use crate::texts::{program_of, repeated};
 use codes::Refusal;
 use program::Program;
 use reader::read;
+use std::alloc::{AllocError, Global};
 use std::test::Fail;
 use syntax::WORKING_PLACES;
 
@@ -10,7 +11,10 @@ use syntax::WORKING_PLACES;
 const HEAD: &[u8] = b"(postfix 0 ";
 
 // A word so many times, an end, and what is said of the head with them.
-const CROWDS: [(&[u8], usize, &[u8], Result<(), Refusal>); 7] = [
+type Row = (&'static [u8], usize, &'static [u8], Result<(), Refusal>);
+
+// Texts of as many commands as there may be, or more.
+const CROWDS: [Row; 7] = [
     (b"1 ", 255, b")", Ok(())),
     (b"1 ", 256, b")", Err(Refusal::Crowd)),
     (b"pop ", 255, b"add)", Err(Refusal::Crowd)),
@@ -20,8 +24,8 @@ const CROWDS: [(&[u8], usize, &[u8], Result<(), Refusal>); 7] = [
     (b"(", 256, b"", Err(Refusal::Crowd)),
 ];
 
-// The same of texts as long as they may be, or longer.
-const LENGTHS: [(&[u8], usize, &[u8], Result<(), Refusal>); 4] = [
+// Texts as long as they may be, or longer.
+const LENGTHS: [Row; 4] = [
     (b"0", 4084, b")", Ok(())),
     (b"0", 4085, b")", Err(Refusal::Long)),
     (b"0", 4070, b"2147483648)", Err(Refusal::Range)),
@@ -30,15 +34,26 @@ const LENGTHS: [(&[u8], usize, &[u8], Result<(), Refusal>); 4] = [
 
 // Nothing where the text is read, else the refusal.
 fn verdict(text: &[u8], places: &mut [u16]) -> Result<(), Refusal> {
-    let mut program = Program::new();
-    read(text, places, &mut program).map_err(|error| error.refusal)
+    program_of(text, places)
+        .map(|_| ())
+        .map_err(|error| error.refusal)
+}
+
+// The head, a word so many times and an end.
+fn text_of(
+    heap: Global,
+    word: &'static [u8],
+    times: usize,
+    end: &'static [u8],
+) -> Result<Vec<u8>, AllocError> {
+    repeated(heap, &[(HEAD, 1), (word, times), (end, 1)])
 }
 
 #[test]
 fn commands(rt: HostRuntime) -> Result<(), Fail> {
     let mut places = [0u16; WORKING_PLACES];
     for (word, times, end, expected) in CROWDS {
-        let text = repeated(rt.alloc(), &[(HEAD, 1), (word, times), (end, 1)])?;
+        let text = text_of(rt.alloc(), word, times, end)?;
         let said = verdict(text.as_slice(), &mut places);
         assert_eq!(rt; said, expected, "{}, {times} times", word.escape_ascii());
     }
@@ -55,11 +70,11 @@ fn depth(rt: HostRuntime) -> Result<(), Fail> {
 
 #[test]
 fn bytes(rt: HostRuntime) -> Result<(), Fail> {
-    let mut places = [0u16; WORKING_PLACES];
-    let longest = repeated(rt.alloc(), &[(HEAD, 1), (b"0", 4084), (b")", 1)])?;
+    let longest = text_of(rt.alloc(), b"0", 4084, b")")?;
     assert_eq!(rt; longest.len(), 4096);
+    let mut places = [0u16; WORKING_PLACES];
     for (word, times, end, expected) in LENGTHS {
-        let text = repeated(rt.alloc(), &[(HEAD, 1), (word, times), (end, 1)])?;
+        let text = text_of(rt.alloc(), word, times, end)?;
         let said = verdict(text.as_slice(), &mut places);
         assert_eq!(rt; said, expected, "{}, {times} times", word.escape_ascii());
     }

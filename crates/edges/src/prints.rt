@@ -1,17 +1,16 @@
 // What is printed, and what is left where it does not fit.
+use crate::texts::program_of;
 use codes::Refusal;
 use printer::print;
-use program::Program;
-use reader::read;
 use syntax::WORKING_PLACES;
 
+// How many bytes are lent to print a standard form into.
 const ROOM: usize = 64;
 
 // What is printed of a text's program into `out`, with so many places lent.
 fn printed(text: &[u8], places: &mut [u16], out: &mut [u8]) -> Result<usize, Refusal> {
     let mut brackets = [0u16; WORKING_PLACES];
-    let mut program = Program::new();
-    read(text, &mut brackets, &mut program).map_err(|error| error.refusal)?;
+    let program = program_of(text, &mut brackets).map_err(|error| error.refusal)?;
     print(&program, places, out)
 }
 
