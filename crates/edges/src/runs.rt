@@ -6,23 +6,13 @@ use semantics::{Outcome, Run, Spent, Value};
 use std::test::Fail;
 use syntax::WORKING_PLACES;
 
-// What the text's program gives on the arguments, with so many places for values and for chains.
-fn ran_in(
-    text: &[u8],
-    arguments: &[i32],
-    values: &mut [Value<u16>],
-    chains: &mut [u16],
-) -> Result<Run, Refusal> {
+// What the text's program gives on the arguments; a refusal where the text is none.
+fn ran(text: &[u8], arguments: &[i32]) -> Result<Run, Refusal> {
     let mut brackets = [0u16; WORKING_PLACES];
     let program = program_of(text, &mut brackets).map_err(|error| error.refusal)?;
-    run(&program, arguments, values, chains)
-}
-
-// What it gives with as many places as are needed.
-fn ran(text: &[u8], arguments: &[i32]) -> Result<Run, Refusal> {
     let mut values = [Value::Numeral(0); WORKING_PLACES];
     let mut chains = [0u16; WORKING_PLACES];
-    ran_in(text, arguments, &mut values, &mut chains)
+    run(&program, arguments, &mut values, &mut chains)
 }
 
 // A run that comes to a number or a fault in so many steps.
@@ -128,16 +118,20 @@ fn deepest_and_tallest(rt: HostRuntime) -> Result<(), Fail> {
 }
 
 #[test]
-fn one_place_less_is_refused(rt: HostRuntime) {
+fn one_place_less_is_refused(rt: HostRuntime) -> Result<(), Fail> {
     let mut values = [Value::Numeral(0); WORKING_PLACES];
     let mut chains = [0u16; WORKING_PLACES];
-    let text = b"(postfix 1)";
+    let mut brackets = [0u16; WORKING_PLACES];
+    let Ok(program) = program_of(b"(postfix 1)", &mut brackets) else {
+        return Err(Fail::new("the text is refused"));
+    };
     assert_eq!(rt;
-        ran_in(text, &[], &mut values[1..], &mut chains),
+        run(&program, &[], &mut values[1..], &mut chains),
         Err(Refusal::Space)
     );
     assert_eq!(rt;
-        ran_in(text, &[], &mut values, &mut chains[1..]),
+        run(&program, &[], &mut values, &mut chains[1..]),
         Err(Refusal::Space)
     );
+    Ok(())
 }
