@@ -16,7 +16,7 @@ module _ (text : List ℕ) (pos n : ℕ) (count : n ≡ prefix_len white (from p
   counted : n ≡ prefix_len white (drop pos text)
   counted = count ∙ ap (prefix_len white) (take_rest text pos)
 
-  -- past the white bytes are the same tokens
+  -- the white bytes at the front add no token
   same_tokens : tokens (from (pos + n) text) ≡ tokens (drop pos text)
   same_tokens = ap tokens (take_rest text (pos + n) ∙ sym (drop-drop n pos text)) ∙ ap (λ (i : ℕ). tokens (drop i (drop pos text))) counted ∙ past_white (drop pos text)
 
@@ -28,7 +28,7 @@ module _ (text : List ℕ) (pos n : ℕ) (count : n ≡ prefix_len white (from p
       let stops = prefix_len_stops white (drop pos text) 0 (omega (arith, counted, length-drop pos text)) in
       subst (λ (b : ℕ). white b ≡ false) (get_or-drop pos text n 0) (subst (λ (i : ℕ). white (get_or (drop pos text) i 0) ≡ false) (sym counted) stops)
 
-  -- the byte there is not white
+  -- the byte after the white ones is not white
   pub dark : 0 < length (from (pos + n) text) → white (get_or (from (pos + n) text) 0 0) ≡ false
   dark l =
       let same : get_or text (pos + n + 0) 0 ≡ get_or (from (pos + n) text) 0 0 = sym (ap (λ (xs : List ℕ). get_or xs 0 0) (take_rest text (pos + n)) ∙ get_or-drop (pos + n) text 0 0) in

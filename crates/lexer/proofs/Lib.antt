@@ -1,3 +1,4 @@
 pub mod Runs
 pub mod Calls
+pub mod Folds
 pub mod Valued

@@ -17,7 +17,7 @@ use Rattle.lexer.specs.declared.words.NumeralError.{NumeralError}
 use Rattle.lexer.specs.declared.words.NumeralError.TheVariants.{OutOfRange, NoNumeral}
 use Rattle.lexer.specs.Wording.{Digits, Within, Reads, Names, told}
 
--- a value that is held at 2 ^ 32 is in range where the value is, and is then the value, whatever its sign
+-- a number that is told of a value held at 2 ^ 32 is told of the value itself, with either sign
 held : (signed : ℕ → ℤ) → ((k : ℕ) → 2 ^ 32 ≤ k → in_range (signed k) ≡ false) → (n v : ℕ) (r : Result ℤ NumeralError) → v ≡ min n (2 ^ 32) → Within (signed v) r → Within (signed n) r
 held signed far n v r e h =
     ⊎_elim (λ (l : n < 2 ^ 32). subst (λ (k : ℕ). Within (signed k) r) (omega arith) h) (λ (l : 2 ^ 32 ≤ n). beyond r (far v (omega arith)) (far n l) h) (cases_lt n (2 ^ 32))

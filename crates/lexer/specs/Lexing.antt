@@ -24,22 +24,22 @@ abbrev pub first : Option Token → List Lexeme → List Lexeme
 first None ts = []
 first (Some t) ts = lexeme t ∷ ts
 
--- where the token that was given begins: at a place of the text that is not white and from which on the tokens are
--- those that the lexer had before it; with no token the place of the last one stays, and there is none to come
+-- where a lexer says that the token begins which it gave: the byte there is not white, and the tokens from there on are
+-- those that the lexer had before it. If it gave no token, the place stays, and no token is to come
 abbrev pub Begins : Lexer → Option Token → Lexer → Type 0
 Begins old None l = (l.start ≡ old.start) × (rest l ≡ [])
 Begins old (Some t) l = (l.start < length (text_of l)) × (white (slice_index (text_of l) l.start) ≡ false) × (tokens (drop l.start (text_of l)) ≡ rest old)
 
--- what a call of `next` gives: the token and those after it are those that were before it, it begins where `start` says,
--- and the text stays
+-- what a call of `next` gives: the token that it gives and the tokens that the lexer has then are those that the lexer
+-- had, the token begins where `start` says, and the text stays
 pub record Gives (old : Lexer) (t : Option Token) (l : Lexer) : Type 0 where
   pub gives : rest old ≡ first t (rest l)
   pub begins : Begins old t l
   pub stays : text_of l ≡ text_of old
 
 -- a byte that words are made of
-abbrev pub is_of_word : ℕ → Bool
-is_of_word c = not (c == 40 || c == 41) && not (white c)
+abbrev pub is_letter : ℕ → Bool
+is_letter c = not (c == 40 || c == 41) && not (white c)
 
 -- the token at the front of a text, and how many bytes it takes
 abbrev pub Leads : List ℕ → Option (Token × ℕ) → Type 0

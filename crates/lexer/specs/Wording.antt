@@ -11,7 +11,7 @@ use Rattle.grammar.specs.Words.{digital, name_word, Numeral, Meaning, number, co
 use Rattle.lexer.specs.declared.words.NumeralError.{NumeralError}
 use Rattle.lexer.specs.declared.words.NumeralError.TheVariants.{OutOfRange, NoNumeral}
 
--- the value of a word of digits, which is held at 2 ^ 32; nothing of any other word
+-- the value of a word of digits, or 2 ^ 32 if the value is larger; a word that is not made of digits has no value
 abbrev pub Digits : List ℕ → Option ℕ → Type 0
 Digits w None = digital w ≡ false
 Digits w (Some v) = (digital w ≡ true) × (v ≡ min (digits_value 10 w) (2 ^ 32))

@@ -9,7 +9,7 @@ pub enum Token<'a> {
     Word(&'a [u8]),
 }
 
-// A text that is lexed: the place up to which its tokens were given, and the place where the last of them begins.
+// A text, the place up to which its tokens were given, and the place where the token that was given last begins.
 #[derive(Drop)]
 pub struct Lexer<'a> {
     pub(crate) text: &'a [u8],

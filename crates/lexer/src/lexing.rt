@@ -2,7 +2,7 @@
 ghost use Rattle.std.specs.Prelude.{◌≡◌, ℕ, ◌<◌, ◌≤◌, Bool, false, length, slice_index};
 ghost use Rattle.std.specs.List.{prefix_len};
 ghost use Rattle.grammar.specs.Tokens.{tokens, white};
-ghost use Rattle.lexer.specs.Lexing.{Leads, is_of_word, rest, text_of};
+ghost use Rattle.lexer.specs.Lexing.{Leads, is_letter, rest, text_of};
 
 use super::lexer::{Lexer, Token};
 
@@ -13,14 +13,14 @@ fn is_white(b: u8) -> bool
     matches!(b, b'\t' | b'\n' | b'\r' | b' ')
 }
 
-// Whether a byte is one of a word's.
+// Whether a byte may stand in a word.
 fn is_letter(b: u8) -> bool
-    ensures { result ≡ is_of_word b }
+    ensures { result ≡ is_letter b }
 {
     !matches!(b, b'(' | b')') && !is_white(b)
 }
 
-// How many bytes at the front of a text pass.
+// How many bytes at the front of a text pass a test.
 fn front_len<F: Fn(u8) -> bool>(text: &[u8], passes: F) -> usize
     requires { F.IsAlwaysCallable passes }
     ensures within { result ≤ length text.now }

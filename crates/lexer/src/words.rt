@@ -13,22 +13,21 @@ pub enum NumeralError {
     NoNumeral,
 }
 
-// Values are held here: far beyond the range, and far from the end of 64 bits.
+// No word of digits is given a larger value than this, which lies far outside the range of numbers and far below the end of
+// 64 bits.
 const HELD: u64 = 4294967296;
 
-// The value of a word of digits, or 2^32 where it is larger; nothing for any other word.
+// The value of a word of digits, or 2^32 if the value is larger. A word that is not made of digits has no value.
 pub fn digits(word: &[u8]) -> Option<u64>
     ensures { Digits word.now result }
 {
     if word.is_empty() {
         return None;
     }
-    let mut all = 0;
-    for byte in word {
+    word.iter().try_fold(0, |all, byte| {
         let digit = char::from(*byte).to_digit(10)?;
-        all = HELD.min(all * 10 + u64::from(digit));
-    }
-    Some(all)
+        Some(HELD.min(all * 10 + u64::from(digit)))
+    })
 }
 
 // The number with this value, if it is in range.
@@ -42,10 +41,12 @@ fn number(value: i64) -> Result<i32, NumeralError>
 pub fn numeral(word: &[u8]) -> Result<i32, NumeralError>
     ensures { Reads word.now result }
 {
-    match word {
-        [b'-', size @ ..] => number(-(digits(size).ok_or(NumeralError::NoNumeral)? as i64)),
-        _ => number(digits(word).ok_or(NumeralError::NoNumeral)? as i64),
-    }
+    let (sign, unsigned) = match word {
+        [b'-', unsigned @ ..] => (-1, unsigned),
+        _ => (1, word),
+    };
+    let size = digits(unsigned).ok_or(NumeralError::NoNumeral)? as i64;
+    number(sign * size)
 }
 
 // The name that has this word.

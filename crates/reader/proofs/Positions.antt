@@ -11,7 +11,7 @@ use Rattle.reader.specs.Places.{at_line, first_place, past, position_after}
 abbrev pub line_feed : ℕ → Bool
 line_feed b = b == 10
 
--- any other byte goes on with it
+-- a byte that is no line feed goes on with its line
 abbrev pub other : ℕ → Bool
 other b = not (b == 10)
 

@@ -1,7 +1,9 @@
 -- What reading a text answers, and what the record holds then.
 use Rattle.std.specs.Prelude.{◌≡◌, ℕ, ◌<◌, ◌≤◌, false, List, [], ◌∷◌, length, drop, Some, None, Ok, Err, Option, Result, ◌⊎◌, slice_index}
+use Rattle.std.specs.declared.ops.ControlFlow.{ControlFlow}
+use Rattle.std.specs.declared.ops.ControlFlow.TheVariants.{Continue, Break}
 use Rattle.codes.specs.declared.Refusal.{Refusal}
-use Rattle.codes.specs.declared.Refusal.TheVariants.{Bracket, Head}
+use Rattle.codes.specs.declared.Refusal.TheVariants.{Head}
 use Rattle.syntax.specs.Bounds.{most_bytes, working_places}
 use Rattle.syntax.specs.Code.{Code, Source}
 use Rattle.syntax.specs.Events.{Draft, draft, blank}
@@ -15,8 +17,8 @@ use Rattle.program.specs.declared.record.Program.{Program}
 use Rattle.program.specs.Programs.{program_of}
 use Rattle.reader.specs.declared.reading.ReadError.{ReadError}
 
--- where the first of some tokens begins in a text: at a byte that is not white and from which on the tokens are these;
--- nowhere where there are none
+-- the place where the first of some tokens begins in a text: the byte there is not white, and the tokens from there on are
+-- these. If there are no tokens, there is no place
 abbrev pub Spot : List ℕ → List Lexeme → Option ℕ → Type 0
 Spot text [] None = Unit {0}
 Spot text [] (Some n) = ⊥
@@ -39,8 +41,8 @@ abbrev pub ReadAs : ℕ → List ℕ → Program → Program → Result (Unit {0
 ReadAs places text before after (Ok u) = reading places text ≡ taken (program_of after)
 ReadAs places text before after (Err x) = (after ≡ before) × Blames text (reading places text) x
 
--- the same by the grammar: a text is accepted exactly where memory suffices, it is short enough and its tokens spell a
--- program, and the record is that program
+-- what `read` answers, by the grammar: a text is accepted exactly if memory suffices, the text is short enough and its
+-- tokens spell a program, and the record is that program
 abbrev pub Exactly : ℕ → List ℕ → Program → Result (Unit {0}) ReadError → Type 0
 Exactly places text after (Ok u) = (working_places ≤ places) × (length text ≤ most_bytes) × Spells (tokens text) (program_of after)
 Exactly places text after (Err x) = working_places ≤ places → length text ≤ most_bytes → (p : Source) → Spells (tokens text) p → ⊥
@@ -49,18 +51,18 @@ Exactly places text after (Err x) = working_places ≤ places → length text �
 abbrev pub Unplaced : Refusal → ReadError → Type 0
 Unplaced e x = (x.refusal ≡ e) × (x.at ≡ None)
 
--- the next token gives what is wanted of it, and us follow; or the head is refused at it
+-- the next token gives what is wanted of it, and the tokens us follow it; or the head is refused at it
 abbrev pub Expected : {T : Type 0} → (Token → Option T → Type 0) → List ℕ → List Lexeme → List Lexeme → Result T ReadError → Type 0
 Expected gives text ts us (Ok x) = (t : Token) × (ts ≡ lexeme t ∷ us) × gives t (Some x)
 Expected gives text ts us (Err x) = (x.refusal ≡ Head) × Spot text ts x.at × ((ts ≡ []) ⊎ ((t : Token) × (ts ≡ lexeme t ∷ us) × gives t None))
 
--- the first three tokens: reading goes on with the commands, which us are; or the head is refused
+-- what the first three tokens lead to: reading goes on with the tokens us, which are the commands, or the head is refused
 abbrev pub Headed : List ℕ → Verdict → List Lexeme → Result Arity ReadError → Type 0
 Headed text v us (Ok a) = v ≡ body a.count us blank
 Headed text v us (Err x) = Blames text v x
 
--- what a token does to a draft that a builder holds: it leads on, it is the program's last bracket, or it is wrong
-abbrev pub Turned : Step → Draft → Draft → Result (Unit {0}) Refusal → Type 0
-Turned s old new (Ok u) = s ≡ goes new
-Turned s old new (Err Bracket) = (c : Code) × (s ≡ ends c) × (old ≡ draft c []) × (new ≡ old)
+-- what a token does to a draft that a builder holds: reading goes on, the token is the program's last bracket, or it is wrong
+abbrev pub Turned : Step → Draft → Draft → Result (ControlFlow (Unit {0}) (Unit {0})) Refusal → Type 0
+Turned s old new (Ok (Continue u)) = s ≡ goes new
+Turned s old new (Ok (Break u)) = (c : Code) × (s ≡ ends c) × (old ≡ draft c []) × (new ≡ old)
 Turned s old new (Err e) = s ≡ wrong e

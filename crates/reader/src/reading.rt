@@ -1,4 +1,4 @@
-// Reading: tokens to events, events to the builder, up to the last bracket or the first wrong token.
+// Reads a text: each token becomes an event for the builder, up to the last bracket or the first wrong token.
 ghost use Rattle.std.specs.Prelude.{◌≡◌, ◌≤◌, [], length, Some};
 ghost use Rattle.grammar.specs.Reading.{after, body, program as program_verdict, step};
 ghost use Rattle.lexer.specs.Lexing.{lexeme, rest, text_of};
@@ -13,9 +13,10 @@ use codes::Refusal;
 use lexer::{Lexer, Token, command, digits};
 use program::{Arity, Builder, Program};
 use stack::Stack;
+use std::ops::ControlFlow;
 use syntax::{Event, MOST_BYTES, WORKING_PLACES};
 
-// Why a text was not read, and where the token begins that is to blame, if one is.
+// Why a text was not read, and the place where the token to blame begins, if a token is to blame.
 #[derive(Clone, Copy)]
 pub struct ReadError {
     pub refusal: Refusal,
@@ -80,7 +81,7 @@ fn header(lexer: &mut Lexer) -> Result<Arity, ReadError>
     })
 }
 
-// What is wanted of the next token, which has to be there and to give it.
+// Takes the next token and answers what is wanted of it. Without a token, or where it does not give that, the head is refused.
 fn expect<'a, T, F: FnOnce(Token<'a>) -> Option<T>>(
     lexer: &mut Lexer<'a>,
     want: F,
@@ -101,16 +102,17 @@ fn commands(lexer: &mut Lexer, arity: Arity, opens: &mut Stack<u16>) -> Result<P
     let mut builder = Builder::new(arity, opens);
     while let Some(token) = lexer.next() {
         match take(&mut builder, token) {
-            Ok(()) => {}
-            Err(Refusal::Bracket) => return ended(lexer, &builder),
+            Ok(ControlFlow::Continue(())) => {}
+            Ok(ControlFlow::Break(())) => return ended(lexer, &builder),
             Err(refusal) => return Err(ReadError::placed(refusal, lexer.start())),
         }
     }
     Err(Refusal::Bracket.into())
 }
 
-// What one token does to the builder. It is refused as a bracket where none is open: then it is the program's last.
-fn take(builder: &mut Builder, token: Token) -> Result<(), Refusal>
+// Hands one token to the builder, which may refuse it. A closing bracket where no bracket is open is the program's last, and
+// reading breaks off there.
+fn take(builder: &mut Builder, token: Token) -> Result<ControlFlow<()>, Refusal>
     requires { most_commands ≤ room builder.old.opens.now }
     ensures turned { Turned (step (working builder.old) (lexeme token.entry)) (working builder.old) (working builder.new) result }
     ensures room { room builder.new.opens.now ≡ room builder.old.opens.now }
@@ -118,10 +120,15 @@ fn take(builder: &mut Builder, token: Token) -> Result<(), Refusal>
     ensures same { builder.new.opens.ghost_name ≡ builder.old.opens.ghost_name }
 {
     match token {
-        Token::Open => builder.accept(Event::Open),
-        Token::Close => builder.accept(Event::Close),
-        Token::Word(word) => builder.accept(command(word)?),
+        Token::Open => builder.accept(Event::Open)?,
+        Token::Close => {
+            if builder.accept(Event::Close).is_err() {
+                return Ok(ControlFlow::Break(()));
+            }
+        }
+        Token::Word(word) => builder.accept(command(word)?)?,
     }
+    Ok(ControlFlow::Continue(()))
 }
 
 // The program, unless a token follows its last bracket.
