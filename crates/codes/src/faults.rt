@@ -21,7 +21,7 @@ impl Fault {
     }
 }
 
-// The number, a blank and the word.
+// The number, a blank and the word. A trait for both kinds of codes would be longer than this line twice.
 impl fmt::Display for Fault {
     ghost output = { λ f. Some (fault_text f) };
 

@@ -56,7 +56,8 @@ impl Generator {
         Ok(text)
     }
 
-    // Takes a token away, doubles or changes one, adds a strange one, or adds commands.
+    // Takes a token away, doubles or changes one, adds a strange one, or adds commands. A match, since a table of closures
+    // would be handed the same `self` and tokens in each.
     fn damage_tokens(&mut self, tokens: &mut Vec<Token>) -> Result<(), AllocError> {
         let Some(at) = self.dice.place_in(tokens.len()) else {
             return Ok(());

@@ -13,6 +13,7 @@ use report::{ReportError, read_report};
 use std::env;
 use std::process::ExitCode;
 
+// How the program is called.
 const USAGE: &str = "usage:
   guide read FILE                read the rule in FILE and print it in its standard form
   guide run FILE [NUMBER ...]    run the rule in FILE on these numbers

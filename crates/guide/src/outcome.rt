@@ -72,26 +72,24 @@ mod tests {
     use std::process::Abort;
     use std::test::Fail;
 
+    // What is said of a text and words: lines, or the lines of a refusal.
     fn says(
         rt: &(impl Abort + AllocGlobal),
         text: &[u8],
         words: &str,
-        lines: &str,
-        accepted: bool,
+        expected: Result<&str, &str>,
     ) -> Result<(), Fail> {
         let mut arguments = Vec::new(rt.alloc());
         for word in words.split_whitespace() {
             arguments.push(String::from_str(rt.alloc(), word)?)?;
         }
-        let report = run_report(rt.alloc(), text, arguments.as_slice());
-        assert!(rt; report.is_ok() == accepted, "{}", lines);
-        let told = match report {
-            Ok(told) | Err(ReportError::Refused(told)) => told,
-            Err(ReportError::Memory(error)) => return Err(error.into()),
-            Err(ReportError::NoText(error)) => return Err(error.into()),
-        };
-        assert!(rt; told.as_str() == lines, "{}", lines);
-        Ok(())
+        match (run_report(rt.alloc(), text, arguments.as_slice()), expected) {
+            (Ok(told), Ok(lines)) | (Err(ReportError::Refused(told)), Err(lines)) => {
+                assert!(rt; told.as_str() == lines, "{}", lines);
+                Ok(())
+            }
+            _ => Err(Fail::new("accepted for refused, or refused for accepted")),
+        }
     }
 
     #[test]
@@ -100,22 +98,19 @@ mod tests {
             &rt,
             b"(postfix 2 sub)",
             "003 -9",
-            "result -12 in 1 steps\n",
-            true,
+            Ok("result -12 in 1 steps\n"),
         )?;
         says(
             &rt,
             b"(postfix 1 add)",
             "3",
-            "fault 12 fault in 1 steps\n",
-            true,
+            Ok("fault 12 fault in 1 steps\n"),
         )?;
         says(
             &rt,
             b"(postfix 2 add)",
             "3",
-            "fault 11 fault in 0 steps\n",
-            true,
+            Ok("fault 11 fault in 0 steps\n"),
         )
     }
 
@@ -125,22 +120,19 @@ mod tests {
             &rt,
             b"(postfix 0 ad)",
             "x",
-            "refused 2 word at line 1, column 12: this is neither a name nor a numeral\n",
-            false,
+            Err("refused 2 word at line 1, column 12: this is neither a name nor a numeral\n"),
         )?;
         says(
             &rt,
             b"(postfix 0)",
             "5 add 2147483648",
-            "refused 2 word at argument 2: this is no numeral\n",
-            false,
+            Err("refused 2 word at argument 2: this is no numeral\n"),
         )?;
         says(
             &rt,
             b"(postfix 0)",
             "2147483648 x",
-            "refused 3 range at argument 1: a numeral is from -2147483648 to 2147483647\n",
-            false,
+            Err("refused 3 range at argument 1: a numeral is from -2147483648 to 2147483647\n"),
         )
     }
 }

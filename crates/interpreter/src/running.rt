@@ -46,6 +46,7 @@ fn run_commands(
     ensures { result ≡ concluded (meaning (tree_of program.now) (numbers arguments.now)) }
 {
     let mut execution = Execution::new(program, arguments, values, chains);
+    // counted here, since they are what the run has spent
     let mut steps: u32 = 0;
     loop {
         match execution.turn() {

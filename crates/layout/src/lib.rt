@@ -27,7 +27,8 @@ pub const VACANT: Place = Place {
     next: 0,
 };
 
-// Place 0 is the head: it holds no command, and links to the first.
+// Place 0 is the head: it holds no command, and links to the first. A table and links, and no boxes: it is fixed memory, and
+// the order of its places is the record's format.
 #[derive(Clone, Copy)]
 pub struct Table {
     pub places: [Place; PLACES],

@@ -45,6 +45,7 @@ pub fn numeral(word: &[u8]) -> Result<i32, NumeralError>
         [b'-', unsigned @ ..] => (-1, unsigned),
         _ => (1, word),
     };
+    // at most 2^32, so it fits
     let size = digits(unsigned).ok_or(NumeralError::NoNumeral)? as i64;
     number(sign * size)
 }

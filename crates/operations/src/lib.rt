@@ -19,7 +19,7 @@ mod operators;
 mod tests;
 
 // Applies a name to the values, and gives the sequence that a machine enters then, if it enters one. A fault leaves the
-// values as they were.
+// values as they were. A match, since a table of closures would say no more than its arms.
 pub fn apply(command: Name, values: &mut Stack<Value<u16>>) -> Result<Option<u16>, Fault>
     ensures answer { result ≡ answer_of (act command (held values.old)) }
     ensures values { held values.new ≡ left_by (act command (held values.old)) (held values.old) }

@@ -2,7 +2,7 @@
 ghost use Rattle.std.specs.Prelude.{◌≡◌, [], ◌∷◌, decimal};
 ghost use Rattle.std.specs.Fmt.{signed_decimal};
 
-// A text that is written byte by byte, as far as the lent bytes have room for it.
+// A text that is written byte by byte, as far as the lent bytes have room for it; the core allocates nothing.
 #[derive(Drop)]
 pub(crate) struct Text<'a> {
     out: &'a mut [u8],
@@ -28,7 +28,7 @@ impl<'a> Text<'a> {
         self.len
     }
 
-    // Adds a number as a numeral.
+    // Adds a number as a numeral. By its contract the library's `write!` may fail, which a print never does.
     pub(crate) fn put_numeral(&mut self, k: i32)
         ensures { Adds self.old (signed_decimal k) self.new }
     {

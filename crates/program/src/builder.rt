@@ -7,7 +7,7 @@ use super::arity::Arity;
 use layout::{PLACES, Place};
 use stack::Stack;
 
-// A program that is being made in the order of its text.
+// A program that is being made in the order of its text, in the fixed memory that its record will have.
 #[derive(Drop)]
 pub struct Builder<'a, 'b> {
     pub(crate) places: [Place; PLACES],

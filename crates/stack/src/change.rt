@@ -16,7 +16,7 @@ impl<'a, T: Copy> Stack<'a, T> {
         Stack { places, len: 0 }
     }
 
-    // Puts a value on top if there is room, and says whether there was.
+    // Puts a value on top if there is room, and says whether there was, as a set of the library says of `insert`.
     pub fn push(&mut self, x: T) -> bool
         ensures size { room self.new ≡ room self.old }
         ensures same { self.new.places.ghost_name ≡ self.old.places.ghost_name }

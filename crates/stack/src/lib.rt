@@ -8,7 +8,8 @@ mod look;
 #[cfg(test)]
 mod tests;
 
-// What the stack holds stands in the first `len` of the lent places, its top last.
+// What the stack holds stands in the first `len` of the lent places, its top last. The places are lent and their use counted
+// here, since the core allocates nothing.
 #[derive(Drop)]
 pub struct Stack<'a, T> {
     places: &'a mut [T],

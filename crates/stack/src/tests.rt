@@ -1,6 +1,7 @@
 // Stacks with no place and with two, over numbers and over an enum.
 use super::Stack;
 
+// A value that is no number.
 #[derive(Clone, Copy, PartialEq, Eq, Debug)]
 enum Coin {
     Heads,
