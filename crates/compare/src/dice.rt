@@ -37,11 +37,13 @@ impl Dice {
         b ^ (b >> 31)
     }
 
-    // A number below `n`.
+    // A number below `n`; 0 where there is none. A `requires` in its place would ask more of callers.
     pub(crate) fn below(&mut self, n: usize) -> usize
-        requires { 0 < n }
-        ensures { result < n }
+        ensures { 0 < n → result < n }
     {
+        if n == 0 {
+            return 0;
+        }
         (self.roll() % n as u64) as usize
     }
 
