@@ -37,6 +37,9 @@ module _ (text : List ℕ) (pos n : ℕ) (count : n ≡ prefix_len white (from p
   pub none_left : from (pos + n) text ≡ [] → tokens (drop pos text) ≡ []
   none_left e = sym same_tokens ∙ ap tokens e
 
+  pub none_behind : from (pos + n) text ≡ [] → tokens (drop (pos + n) text) ≡ []
+  none_behind e = ap tokens (sym (take_rest text (pos + n)) ∙ e)
+
   module _ (t : Token) (k : ℕ) (leads : Leads (from (pos + n) text) (Some (t, k))) where
     pub some_left : tokens (drop pos text) ≡ lexeme t ∷ tokens (drop (pos + n + k) text)
     some_left =

@@ -81,7 +81,11 @@ impl<'a> Iterator for Lexer<'a> {
     fn next(&mut self) -> Option<Token<'a>> {
         let text = self.text;
         let start = self.pos + front_len(&text[self.pos..], is_white);
-        let (token, len) = first_token(&text[start..])?;
+        let Some((token, len)) = first_token(&text[start..]) else {
+            // so that no later call passes them again
+            self.pos = start;
+            return None;
+        };
         *self = Lexer {
             text,
             pos: start + len,
