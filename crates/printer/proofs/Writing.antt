@@ -1,7 +1,7 @@
 -- Texts that are written in parts, and what is left where there is room for the whole.
 use Rattle.std.proofs.Common.{◌≡◌, ℕ, ◌+◌, ◌-◌, ◌<◌, ◌≤◌, ◌^◌, Bool, true, false, List, [], ◌∷◌, ◌++◌, length, min, drop, Some, Ok, Option, Result, sym, refl, ap, ◌∙◌, arith}
 use Rattle.std.specs.List.{fold}
-use Rattle.std.proofs.lemmas.List.{append-nil, append_assoc, length-append, set_at}
+use Rattle.std.proofs.lemmas.List.{append-nil, append_assoc, length-append, set_at, set_past}
 use Rattle.std.proofs.lemmas.List.Sums.{fold-append}
 use Rattle.codes.specs.declared.Refusal.{Refusal}
 use Rattle.stack.specs.Items.{head_of}
@@ -18,6 +18,14 @@ use Rattle.printer.specs.Writing.{added, close_behind, ending, heading, written}
 pub length_added : (bs : List ℕ) (s : List ℕ × ℕ) → s.1 + length bs < 2 ^ 64 → (fold added s bs).1 ≡ s.1 + length bs
 length_added [] s h = omega arith
 length_added (b ∷ bs) s h = length_added bs (added s b) (omega arith) ∙ omega arith
+
+-- bytes for which there is no room are only counted
+pub only_counted : (bs lent : List ℕ) (n : ℕ) → length lent ≤ n → n < 2 ^ 64 → fold added (lent, n) bs ≡ (lent, min (n + length bs) (2 ^ 64 - 1))
+only_counted [] lent n l h = ap (λ (i : ℕ). (lent, i)) (omega arith)
+only_counted (b ∷ bs) lent n l h =
+    ap (λ (xs : List ℕ). fold added (xs, min (n + 1) (2 ^ 64 - 1)) bs) (set_past lent n b l)
+    ∙ only_counted bs lent (min (n + 1) (2 ^ 64 - 1)) (omega arith) (omega arith)
+    ∙ ap (λ (i : ℕ). (lent, i)) (omega arith)
 
 -- the heading and what follows it are the text
 pub text_added : (k : ℕ) (q : Code) (s : List ℕ × ℕ) → fold added (fold added s (heading k)) (ending false (events q)) ≡ fold added s (print (source k q))
