@@ -1,48 +1,49 @@
--- Lines and columns: line feeds are counted, and the bytes after the last of them.
-use Rattle.std.proofs.Common.{◌≡◌, ℕ, zero, suc, ◌+◌, ◌-◌, ◌<◌, ◌≤◌, Bool, true, false, not, ◌==◌, List, [], ◌∷◌, ◌++◌, length, get_or, take, refl, ap, ◌∙◌, arith, subst, ⊎_elim, add-one}
-use Rattle.std.specs.List.{count_by, suffix_len}
-use Rattle.std.proofs.lemmas.List.Sums.{count_by_more_no, count_by_more_yes, suffix_len-take_no, suffix_len-take_yes}
+-- Lines and columns, one byte further.
+use Rattle.std.proofs.Common.{◌≡◌, ℕ, ◌+◌, ◌<◌, ◌≤◌, eqb, List, [], ◌∷◌, ◌++◌, length, get_or, take, sym, refl, ap, ◌∙◌, arith}
 use Rattle.std.proofs.lemmas.List.{take_more}
-use Rattle.std.proofs.lemmas.Bool.{cases_Bool}
+use Rattle.std.proofs.lemmas.Bool.{cond-true, cond-false, eq-eqb, ne_eqb}
 use Rattle.reader.specs.declared.place.Position.{Position}
 use Rattle.reader.specs.Places.{at_line, first_place, past, position_after}
 
--- a line feed ends its line
-abbrev pub line_feed : ℕ → Bool
-line_feed b = b == 10
-
--- a byte that is no line feed goes on with its line
-abbrev pub other : ℕ → Bool
-other b = not (b == 10)
+-- the place behind the first bytes of a text, and that its numbers are no larger than counting makes them
+pub record Reached (text : List ℕ) (i : ℕ) (p : Position) : Type 0 where
+  pub place : p ≡ position_after first_place (take i text)
+  pub line : p.line ≤ i + 1
+  pub column : p.column ≤ i + 1
 
 one_more : (p : Position) (bs : List ℕ) (b : ℕ) → position_after p (bs ++ b ∷ []) ≡ past (position_after p bs) b
 one_more p [] b = refl
 one_more p (c ∷ bs) b = one_more (past p c) bs b
 
--- the bytes up to i, told by counting
-abbrev pub Told : List ℕ → ℕ → Type 0
-Told t i = position_after first_place (take i t) ≡ at_line (1 + count_by line_feed (take i t)) (1 + suffix_len other (take i t))
+past_line_feed : (p : Position) (b : ℕ) → b ≡ 10 → at_line (p.line + 1) 1 ≡ past p b
+past_line_feed p b e = sym (cond-true (eqb b 10) (at_line (p.line + 1) 1) (at_line p.line (p.column + 1)) (eq-eqb b 10 e))
 
-module _ (t : List ℕ) (i : ℕ) (l : i < length t) (told : Told t i) where
-  next : position_after first_place (take (i + 1) t) ≡ past (at_line (1 + count_by line_feed (take i t)) (1 + suffix_len other (take i t))) (get_or t i 0)
-  next = ap (position_after first_place) (take_more t i 0 l) ∙ one_more first_place (take i t) (get_or t i 0) ∙ ap (λ (p : Position). past p (get_or t i 0)) told
+past_other : (p : Position) (b : ℕ) → (b ≡ 10 → ⊥) → at_line p.line (p.column + 1) ≡ past p b
+past_other p b e = sym (cond-false (eqb b 10) (at_line (p.line + 1) 1) (at_line p.line (p.column + 1)) (ne_eqb b 10 e))
 
-  same : i + 1 - 1 ≡ i
-  same = omega arith
+module _ (text : List ℕ) (i : ℕ) (p q : Position) (l : i < length text) (reached : Reached text i p) where
+  next_place : q ≡ past p (get_or text i 0) → q ≡ position_after first_place (take (i + 1) text)
+  next_place e =
+      e
+      ∙ ap (λ (x : Position). past x (get_or text i 0)) reached.place
+      ∙ sym (ap (position_after first_place) (take_more text i 0 l) ∙ one_more first_place (take i text) (get_or text i 0))
 
-  at_feed : line_feed (get_or t i 0) ≡ true → Told t (i + 1)
-  at_feed h =
-      let none : other (get_or t (i + 1 - 1) 0) ≡ false = rw same (ap not h) in
-      next ∙ rw (h, count_by_more_yes line_feed t i 0 l h, suffix_len-take_no other t (i + 1) 0 (omega arith) (omega arith) none) (ap (λ (m : ℕ). at_line m 1) (omega arith))
+  pub behind_line_feed : get_or text i 0 ≡ 10 → q ≡ at_line (p.line + 1) 1 → Reached text (i + 1) q
+  behind_line_feed b e =
+      let line = reached.line in
+      let column = reached.column in
+      record {
+        place = next_place (e ∙ past_line_feed p (get_or text i 0) b);
+        line = omega (arith, ap (λ (x : Position). x.line) e);
+        column = omega (arith, ap (λ (x : Position). x.column) e);
+      }
 
-  at_other : line_feed (get_or t i 0) ≡ false → Told t (i + 1)
-  at_other h =
-      let one : other (get_or t (i + 1 - 1) 0) ≡ true = rw same (ap not h) in
-      next ∙ rw (h, count_by_more_no line_feed t i 0 l h, suffix_len-take_yes other t (i + 1) 0 (omega arith) (omega arith) one, same) (ap (at_line (1 + count_by line_feed (take i t))) (omega arith))
-
--- the place after the first n bytes
-pub placed : (t : List ℕ) (n : ℕ) → n ≤ length t → Told t n
-placed t zero l = refl
-placed t (suc n) l =
-    let told : Told t n = placed t n (omega arith) in
-    subst (Told t) (add-one n) (⊎_elim (at_feed t n (omega arith) told) (at_other t n (omega arith) told) (cases_Bool (line_feed (get_or t n 0))))
+  pub behind_other : (get_or text i 0 ≡ 10 → ⊥) → q ≡ at_line p.line (p.column + 1) → Reached text (i + 1) q
+  behind_other b e =
+      let line = reached.line in
+      let column = reached.column in
+      record {
+        place = next_place (e ∙ past_other p (get_or text i 0) b);
+        line = omega (arith, ap (λ (x : Position). x.line) e);
+        column = omega (arith, ap (λ (x : Position). x.column) e);
+      }

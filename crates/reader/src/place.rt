@@ -13,15 +13,14 @@ pub struct Position {
 pub fn locate(text: &[u8], at: usize) -> Position
     ensures { result ≡ position_after first_place (take at text.now) }
 {
-    let before = &text[..at.min(text.len())];
-    let line_feeds = before.iter().filter(|byte| **byte == b'\n').count();
-    let bytes_since = before
-        .iter()
-        .rev()
-        .take_while(|byte| **byte != b'\n')
-        .count();
-    Position {
-        line: 1 + line_feeds,
-        column: 1 + bytes_since,
+    let mut here = Position { line: 1, column: 1 };
+    for byte in &text[..at.min(text.len())] {
+        if *byte == b'\n' {
+            here.line += 1;
+            here.column = 1;
+        } else {
+            here.column += 1;
+        }
     }
+    here
 }

@@ -1,20 +1,16 @@
-use Rattle.std.proofs.Common.{◌≡◌, ℕ, sym, ap, ◌≤◌, ◌∙◌, length, take, reverse, rules, arith}
-use Rattle.std.specs.List.{count_by, suffix_len}
-use Rattle.std.proofs.lemmas.Iterator.Search.{YieldsList-from_take_while}
-use Rattle.std.proofs.lemmas.Iterator.Consumers.{count_from_yields_List}
-use Rattle.std.proofs.lemmas.Iterator.Adapters.{YieldsList-from_rev_slice}
-use Rattle.std.proofs.lemmas.List.Folds.{length-prefix_len}
-use Rattle.std.proofs.lemmas.Grind.{common_steps}
-use Rattle.std.proofs.lemmas.List.{take_min}
-use Rattle.reader.specs.Places.{first_place, position_after}
-use Rattle.reader.proofs.Positions.{line_feed, other, placed}
+use Rattle.std.proofs.Common.{◌≡◌, ◌<◌, length, get_or, take, min, sym, ◌∙◌, arith}
+use Rattle.std.proofs.lemmas.List.{get_or-take, length-take}
+use Rattle.reader.proofs.Positions.{behind_line_feed, behind_other}
 use Rattle.reader.proofs.place.locate.Goals as goal
+use Rattle.reader.proofs.place.locate.Goals.{then-byte-eq10, else-byte-eq10}
 
-pub returns : goal.returns
-returns c =
-    let lines : c.count-line_feeds.result ≡ count_by line_feed (take c.min.result c.args.text.now) = grind (arith, common_steps) in
-    let columns : c.count-bytes_since.result ≡ suffix_len other (take c.min.result c.args.text.now) =
-    count_from_yields_List c.take_while.result _ c.count-bytes_since.ensures.ran (YieldsList-from_take_while _ other (YieldsList-from_rev_slice (take c.min.result c.args.text.now) (search rules)) c.take_while.ensures.closure c.take_while.ensures.done (λ x b q k. search rules)) ∙ length-prefix_len other (reverse (take c.min.result c.args.text.now)) in
-    let end : c.min.result ≤ length c.args.text.now = omega (arith, c.min.ensures) in
-    let same : take c.min.result c.args.text.now ≡ take c.args.at c.args.text.now = ap (λ (n : ℕ). take n c.args.text.now) c.min.ensures ∙ take_min c.args.at c.args.text.now in
-    rw (lines, columns) (sym (placed c.args.text.now c.min.result end) ∙ ap (position_after first_place) same)
+pub loop-byte-preserved : goal.loop-byte-preserved
+loop-byte-preserved c =
+    let text = c.args.text.now in
+    let i = c.loop-byte.byte-index in
+    let cut : i < min c.min.result (length text) = omega (arith, c.loop-byte-test.true, length-take c.min.result text) in
+    let same : get_or (take c.min.result text) i 0 ≡ get_or text i 0 = get_or-take c.min.result text i 0 (omega arith) in
+    elim c.if-byte-eq10.branch [
+      | then-byte-eq10 w ↦ behind_line_feed text i c.loop-byte.here c.if-byte-eq10.here (omega arith) c.loop-byte.invariant (sym same ∙ w.if-byte-eq10.true) w.here-is
+      | else-byte-eq10 w ↦ behind_other text i c.loop-byte.here c.if-byte-eq10.here (omega arith) c.loop-byte.invariant (λ e. w.if-byte-eq10.false (same ∙ e)) w.here-is
+    ]
