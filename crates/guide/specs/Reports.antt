@@ -1,5 +1,5 @@
 -- What is said of a text.
-use Rattle.std.specs.Prelude.{◌≡◌, ℕ, List, [], ◌++◌, take, Some, None, Ok, Err, String, string_bytes, codes, decimal, Option, Result}
+use Rattle.std.specs.Prelude.{◌≡◌, ℕ, Bool, true, false, List, [], ◌++◌, take, Some, None, Ok, Err, String, string_bytes, codes, decimal, Option, Result}
 use Rattle.std.specs.declared.alloc.Global.{Global}
 use Rattle.codes.specs.declared.Refusal.{Refusal}
 use Rattle.codes.specs.Codes.{refusal_text}
@@ -70,3 +70,15 @@ Told text (refused e ts) (Err (NoText x)) = ⊥
 -- the line of a refusal that an error tells
 abbrev pub RefusedLine : List ℕ → ReadError → List ℕ → Type 0
 RefusedLine text x line = (remark : List ℕ) × (line ≡ refused_line x.refusal (spot_of text x.at) remark)
+
+-- an error, whichever
+abbrev pub Fails : {A E : Type 0} → Result A E → Type 0
+Fails (Ok a) = ⊥
+Fails (Err e) = Unit {0}
+
+-- what is printed of a report, and whether it tells no refusal; nothing of one that could not be made
+abbrev pub Printed : {E : Type 0} → Result (String Global) ReportError → Result (String Global × Bool) E → Type 0
+Printed (Ok s) r = r ≡ Ok (s, true)
+Printed (Err (Refused s)) r = r ≡ Ok (s, false)
+Printed (Err (Memory e)) r = Fails r
+Printed (Err (NoText e)) r = Fails r

@@ -1,6 +1,8 @@
 // The program that people run: a command line over the toolkit.
 #![tactic(auto)]
 
+ghost use Rattle.guide.specs.Reports.{Printed};
+
 mod arguments;
 mod input;
 mod outcome;
@@ -76,18 +78,26 @@ fn text_of(rt: &HostRuntime, file: &str) -> anyhow::Result<Vec<u8>> {
     }
 }
 
-// Prints a report. A refusal ends the program with status 1.
-fn tell(rt: &HostRuntime, report: Result<String, ReportError>) -> anyhow::Result<()> {
+// What is printed of a report, and whether it tells no refusal. Nothing is printed of a report that could not be made.
+fn printed(report: Result<String, ReportError>) -> anyhow::Result<(String, bool)>
+    ensures { Printed report result }
+{
     match report {
-        Ok(lines) => {
-            rt.print(lines.as_str())?;
-            Ok(())
-        }
-        Err(ReportError::Refused(lines)) => {
-            rt.print(lines.as_str())?;
-            Err(anyhow!("refused"))
-        }
+        Ok(lines) => Ok((lines, true)),
+        Err(ReportError::Refused(lines)) => Ok((lines, false)),
         Err(ReportError::Memory(error)) => Err(error.into()),
         Err(ReportError::NoText(error)) => Err(error.into()),
+    }
+}
+
+// Prints a report, a refusal too by the same line, so that the stored output holds both. A refusal ends the program with
+// status 1.
+fn tell(rt: &HostRuntime, report: Result<String, ReportError>) -> anyhow::Result<()> {
+    let (lines, accepted) = printed(report)?;
+    rt.print(lines.as_str())?;
+    if accepted {
+        Ok(())
+    } else {
+        Err(anyhow!("refused"))
     }
 }
