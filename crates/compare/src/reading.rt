@@ -184,7 +184,14 @@ fn size(digits: &[u8]) -> Option<u64> {
         return None;
     }
     digits.iter().try_fold(0u64, |total, digit| {
-        let digit = char::from(*digit).to_digit(10)?;
-        Some(total.saturating_mul(10).saturating_add(u64::from(digit)))
+        // by its byte, since the toolkit asks the library whether a character is a digit
+        let b'0'..=b'9' = *digit else {
+            return None;
+        };
+        Some(
+            total
+                .saturating_mul(10)
+                .saturating_add(u64::from(*digit - b'0')),
+        )
     })
 }

@@ -17,6 +17,21 @@ fn verdict(text: &[u8]) -> Verdict {
         .map_err(|error| (error.refusal, error.at))
 }
 
+// The numbers of the refusals that the tables name.
+const NUMBERS: [(Refusal, u8); 4] = [
+    (Refusal::Word, 2),
+    (Refusal::Range, 3),
+    (Refusal::Bracket, 4),
+    (Refusal::Head, 5),
+];
+
+#[test]
+fn numbers(rt: HostRuntime) {
+    for (refusal, number) in NUMBERS {
+        assert_eq!(rt; refusal.number(), number, "{refusal}");
+    }
+}
+
 // Texts whose first three tokens are right or wrong.
 const HEADS: [Row; 13] = [
     (b"", Err((Refusal::Head, None))),
